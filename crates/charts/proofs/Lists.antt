@@ -1,0 +1,14 @@
+-- Lists with one more at the end.
+use mathlib.Core.Path.{_≡_, refl, sym, ap, _∙_}
+use mathlib.Core.List.{List, [], _∷_, _++_}
+use Prim.Native.Nat.{ℕ, _+_, _-_, _<_, _≤_}
+use native.Mathlib.Omega.{arith}
+use lib.ListN.{length, take, getD}
+use Rattle.std.proofs.shelf.Lists.{take-more, take-all}
+
+-- a list that is not empty ends with its last
+pub split-last : {X : Type 0} (xs : List X) (d : X) → 0 < length xs → xs ≡ take (length xs - 1) xs ++ getD xs (length xs - 1) d ∷ []
+split-last xs d h =
+    let within : length xs - 1 < length xs = omega arith in
+    let whole : length xs ≤ length xs - 1 + 1 = omega arith in
+    sym (take-all (length xs - 1 + 1) xs whole) ∙ take-more xs (length xs - 1) d within

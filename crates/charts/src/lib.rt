@@ -1,0 +1,9 @@
+// Control charts over scores: the trait that every chart meets, with its laws, and the list that a look-back reads.
+mod chart;
+mod fault;
+mod scores;
+
+pub use chart::Chart;
+pub use fault::ChartFault;
+pub use fault::SettingFault;
+pub use scores::Scores;

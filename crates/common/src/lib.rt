@@ -1,0 +1,7 @@
+// What the rooms of the house share: what a score is, and what a refusal says.
+mod refusal;
+mod score;
+
+pub use refusal::Carried;
+pub use refusal::Refusal;
+pub use score::is_score;
