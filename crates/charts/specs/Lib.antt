@@ -1,4 +1,5 @@
 pub mod Answers
 pub mod Faults
 pub mod Model
+pub mod Of
 pub mod Scores

@@ -2,7 +2,8 @@
 --   listed      the list that a view stands for, the oldest score first
 --   areScores   whether every number of a list is a score
 --   checked     whether a look-back takes a list: 15 where it has more than 4,096 numbers, then 6 where one is no score
---   Last        the split of a list at its end: nothing of an empty list, else the latest score and those before it
+--   latest      the latest score of a list, if it has one
+--   LastOf      a list split at its end: nothing of an empty list, else the last element and those before it
 use mathlib.Core.Bool.{Bool, true, cond, _&&_}
 use mathlib.Core.List.{List, [], _∷_, _++_}
 use mathlib.Core.Path.{_≡_}
@@ -29,6 +30,12 @@ areScores (x ∷ xs) = isScore x && areScores xs
 abbrev pub checked : List ℤ → Result (Unit {0}) ChartFault
 checked xs = cond (leb (length xs) 4096) (cond (areScores xs) (Ok tt) (Err OutOfRange)) (Err TooLong)
 
-abbrev pub Last : List ℤ → Option (ℤ × Scores) → Type 0
-Last xs None = xs ≡ []
-Last xs (Some split) = xs ≡ listed (split .1) ++ split .0 ∷ []
+abbrev pub latest : List ℤ → Option ℤ
+latest [] = None
+latest (x ∷ []) = Some x
+latest (x ∷ (y ∷ ys)) = latest (y ∷ ys)
+
+-- `before` gives the list of what stands before
+abbrev pub LastOf : {B : Type 0} → (B → List ℤ) → List ℤ → Option (ℤ × B) → Type 0
+LastOf before xs None = xs ≡ []
+LastOf before xs (Some split) = xs ≡ before (split .1) ++ split .0 ∷ []

@@ -1,8 +1,6 @@
 // The scores that a look-back reads, the oldest first. A look-back copies none of them.
-ghost use Prim.Native.Nat.{_≤_};
-ghost use lib.ListN.{length};
 ghost use mathlib.Core.Path.{_≡_};
-ghost use Rattle.charts.specs.Scores.{areScores, listed, checked, Last};
+ghost use Rattle.charts.specs.Scores.{areScores, listed, checked, latest, LastOf};
 use crate::fault::ChartFault;
 use common::is_score;
 
@@ -30,12 +28,18 @@ impl<'a> Scores<'a> {
 
     // The latest score, and the scores before it.
     pub fn split_last(self) -> Option<(i16, Scores<'a>)>
-        ensures { λ r. ⌜ Last (listed (self .entry)) r ⌝ }
+        ensures { λ r. ⌜ LastOf listed (listed (self .entry)) r ⌝ }
     {
-        match self.list {
-            [] => None,
-            [before @ .., last] => Some((*last, Scores { list: before })),
+        match split_end(self.list) {
+            Some((last, before)) => Some((last, Scores { list: before })),
+            None => None,
         }
+    }
+
+    pub fn latest(self) -> Option<i16>
+        ensures { λ r. ⌜ r ≡ latest (listed (self .entry)) ⌝ }
+    {
+        last_of(self.list)
     }
 }
 
@@ -48,4 +52,22 @@ fn are_scores(list: &[i16]) -> bool
         }
     }
     true
+}
+
+fn split_end(list: &[i16]) -> Option<(i16, &[i16])>
+    ensures { λ r. ⌜ LastOf now (now (list .entry)) r ⌝ }
+{
+    match list {
+        [] => None,
+        [before @ .., last] => Some((*last, before)),
+    }
+}
+
+fn last_of(list: &[i16]) -> Option<i16>
+    ensures { λ r. ⌜ r ≡ latest (now (list .entry)) ⌝ }
+{
+    match split_end(list) {
+        Some((last, _)) => Some(last),
+        None => None,
+    }
 }

@@ -1,0 +1,4 @@
+pub mod MaskLaws
+pub mod PageLaws
+pub mod ShewhartLaws
+pub mod Words
