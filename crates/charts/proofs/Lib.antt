@@ -1,2 +1,4 @@
 pub mod Lists
 pub mod Looking
+pub mod Running
+pub mod Stepping

@@ -1,12 +1,12 @@
 -- Lists with one more at the end.
-use mathlib.Core.Path.{_≡_, refl, sym, ap, _∙_}
+use mathlib.Core.Path.{_≡_, refl, sym, _∙_, subst}
 use mathlib.Core.List.{List, [], _∷_, _++_}
 use Prim.Native.Nat.{ℕ, _+_, _-_, _<_, _≤_}
 use native.Mathlib.Omega.{arith}
 use lib.IntN.{ℤ}
 use lib.ListN.{length, take, getD}
 use Rattle.std.specs.declared.option.Option.the-variants.{Some}
-use Rattle.std.proofs.shelf.Lists.{take-more, take-all}
+use Rattle.std.proofs.shelf.Lists.{take-more, take-all, append-nil, append-assoc}
 use Rattle.charts.specs.Scores.{latest}
 
 -- a list that is not empty ends with its last
@@ -21,3 +21,11 @@ pub latest-is : (xs : List ℤ) (x : ℤ) → latest (xs ++ x ∷ []) ≡ Some x
 latest-is [] x = refl
 latest-is (y ∷ []) x = refl
 latest-is (y ∷ (z ∷ zs)) x = latest-is (z ∷ zs) x
+
+-- induction, one more at the end
+pub snoc-ind : {X : Type 0} (P : List X → Type 0) → P [] → ((xs : List X) (x : X) → P xs → P (xs ++ x ∷ [])) → (xs : List X) → P xs
+snoc-ind {X} P none more xs = go [] xs none
+  where
+    go : (front back : List X) → P front → P (front ++ back)
+    go front [] h = subst P (sym (append-nil front)) h
+    go front (x ∷ back) h = subst P (append-assoc front (x ∷ []) back) (go (front ++ x ∷ []) back (more front x h))

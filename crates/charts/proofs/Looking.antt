@@ -10,7 +10,8 @@ use native.Mathlib.Omega.{arith}
 use Rattle.std.specs.declared.result.Result.{Result}
 use Rattle.std.specs.declared.result.Result.the-variants.{Ok, Err}
 use Rattle.std.proofs.shelf.Tests.{leb-true, and-parts, and-from}
-use Rattle.common.specs.Score.{isScore}
+use Rattle.std.specs.shelf.Lists.{All}
+use Rattle.common.specs.Score.{isScore, Score}
 use Rattle.charts.specs.Answers.{taken}
 use Rattle.charts.specs.Scores.{areScores, checked}
 use Rattle.charts.specs.declared.fault.ChartFault.{ChartFault}
@@ -40,3 +41,8 @@ are-scores-parts (x ∷ xs) ys q =
     let both = and-parts (isScore x) (areScores (xs ++ ys)) q in
     let rest = are-scores-parts xs ys (both .1) in
     (and-from (isScore x) (areScores xs) (both .0) (rest .0), rest .1)
+
+-- a list of which each passes the test is a list of scores
+pub all-scores : (xs : List ℤ) → areScores xs ≡ true → All Score xs
+all-scores [] q = tt
+all-scores (x ∷ xs) q = let both = and-parts (isScore x) (areScores xs) q in (both .0, all-scores xs (both .1))

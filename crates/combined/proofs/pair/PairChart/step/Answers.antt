@@ -1,0 +1,42 @@
+use mathlib.Core.Path.{_≡_, sym, ap, _∙_}
+use mathlib.Core.Bool.{true}
+use native.Mathlib.Omega.{arith}
+use Prim.Native.Nat.{_+_, _*_, _^_, _<_}
+use mir.Val.{SFits, toZ, ofZ}
+use mir.Syntax.{w16, w32}
+use Rattle.std.proofs.shelf.Signed.{ints, toZ-ofZ}
+use Rattle.common.specs.Score.{isScore, Score}
+use Rattle.combined.proofs.PairCode.{first-takes, steps-fit, steps-join}
+use Rattle.combined.proofs.pair.PairChart.step.Given.{Over}
+use Rattle.combined.proofs.pair.PairChart.step.Needs as need
+
+pub returns-in-Break-first : need.returns-in-Break-first
+returns-in-Break-first g c =
+    let self = c .args .self .now in
+    let passed = toZ-ofZ w16 (c .args .score) (c .fits .score) in
+    let wide : toZ w32 (ofZ w32 (toZ w16 (ofZ w16 (c .args .score)))) ≡ toZ w16 (ofZ w16 (c .args .score)) = omega (arith, ints) in
+    let score : Score (toZ w16 (ofZ w16 (c .args .score))) = sym (ap isScore wide) ∙ sym (c .is-score .ensures) ∙ c .if-not-is-score .left in
+    absurd (first-takes _ _ (g .A·Chart·met .lawful (self .first)) (g .B·Chart·met .lawful (self .second)) _
+      (sym (c .size .ensures) ∙ c .in-Some-Some-Some .is-0) _ (sym (c .size-2 .ensures) ∙ c .in-Some-Some-Some .is-1)
+      (c .args .state) _ _ (c .if-state-size .left) score (sym (c .step .ensures) ∙ c .in-Break-first .was tt))
+
+pub join-word-requires : need.join-word-requires
+join-word-requires g c κs =
+    let self = c .args .self .now in
+    let joins = steps-join _ _ (g .A·Chart·met .lawful (self .first)) (g .B·Chart·met .lawful (self .second)) _
+        (sym (c .size .ensures) ∙ c .in-Some-Some-Some .is-0) _ (sym (c .leaves .ensures) ∙ c .in-Some-Some-Some .is-2) _ _ _ _ _ _ _
+        (sym (c .step .ensures) ∙ c .in-Continue-first .was tt) (sym (c .step-2 .ensures) ∙ c .in-Continue-second .was tt) in
+    record { narrow = joins .narrow; fits = joins .fits }
+
+fit : (g : Over) (c : need.Then-word-eq0 g) → c .in-Continue-first .first * c .in-Some-Some-Some .q + c .in-Continue-second .second < 2 ^ 32
+fit g c =
+    let self = c .args .self .now in
+    steps-fit _ _ (g .A·Chart·met .lawful (self .first)) (g .B·Chart·met .lawful (self .second)) _
+      (sym (c .size .ensures) ∙ c .in-Some-Some-Some .is-0) _ (sym (c .size-2 .ensures) ∙ c .in-Some-Some-Some .is-1) (c .args .state) _ _ _ _ _
+      (sym (c .step .ensures) ∙ c .in-Continue-first .was tt) (sym (c .step-2 .ensures) ∙ c .in-Continue-second .was tt)
+
+pub mul-result : need.mul-result
+mul-result g c = let h = fit g c in omega arith
+
+pub add-result : need.add-result
+add-result g c = let h = fit g c in omega arith
