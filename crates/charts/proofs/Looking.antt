@@ -9,7 +9,7 @@ use lib.ListN.{length}
 use native.Mathlib.Omega.{arith}
 use Rattle.std.specs.declared.result.Result.{Result}
 use Rattle.std.specs.declared.result.Result.the-variants.{Ok, Err}
-use Rattle.std.proofs.shelf.Tests.{leb-true, and-parts, and-from}
+use Rattle.std.proofs.shelf.Tests.{leb-true, le-leb, and-parts, and-from}
 use Rattle.std.specs.shelf.Lists.{All}
 use Rattle.common.specs.Score.{isScore, Score}
 use Rattle.charts.specs.Answers.{taken}
@@ -46,3 +46,9 @@ are-scores-parts (x ∷ xs) ys q =
 pub all-scores : (xs : List ℤ) → areScores xs ≡ true → All Score xs
 all-scores [] q = tt
 all-scores (x ∷ xs) q = let both = and-parts (isScore x) (areScores xs) q in (both .0, all-scores xs (both .1))
+
+-- a short list of scores passes the check
+pub passes : (xs : List ℤ) → length xs ≤ 4096 → areScores xs ≡ true → checked xs ≡ Ok tt
+passes xs few scores =
+    ap (λ t. cond {A = Result (Unit {0}) ChartFault} t (cond (areScores xs) (Ok tt) (Err OutOfRange)) (Err TooLong)) (le-leb (length xs) 4096 few)
+    ∙ ap (λ t. cond {A = Result (Unit {0}) ChartFault} t (Ok tt) (Err OutOfRange)) scores

@@ -5,5 +5,11 @@ mod scores;
 
 pub use chart::Chart;
 pub use fault::ChartFault;
+pub use fault::ChartFaultDebug;
+pub use fault::ChartFaultPartialEq;
+pub use fault::ChartFaultRefusal;
 pub use fault::SettingFault;
+pub use fault::SettingFaultDebug;
+pub use fault::SettingFaultPartialEq;
+pub use fault::SettingFaultRefusal;
 pub use scores::Scores;

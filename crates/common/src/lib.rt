@@ -3,5 +3,7 @@ mod refusal;
 mod score;
 
 pub use refusal::Carried;
+pub use refusal::CarriedDebug;
+pub use refusal::CarriedPartialEq;
 pub use refusal::Refusal;
 pub use score::is_score;

@@ -1,0 +1,2 @@
+pub mod LookBackLaws
+pub mod Scoring
