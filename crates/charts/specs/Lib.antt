@@ -3,3 +3,4 @@ pub mod Faults
 pub mod Model
 pub mod Of
 pub mod Scores
+pub mod Words

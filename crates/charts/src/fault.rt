@@ -1,6 +1,7 @@
 // Why a chart declines.
-ghost use Rattle.charts.specs.Faults.{chartNumber, chartCarried, settingNumber, settingCarried};
+ghost use Rattle.charts.specs.Faults.{chartRefusal, settingRefusal};
 use common::Carried;
+use common::Fault;
 use common::Refusal;
 
 // Why a step or a look-back is declined.
@@ -14,21 +15,16 @@ pub enum ChartFault {
     TooLong,
 }
 
-pub impl Refusal for ChartFault as ChartFaultRefusal {
-    ghost number = { chartNumber };
+pub impl Fault for ChartFault as ChartFaultRefusal {
+    ghost refusal = { chartRefusal };
 
-    ghost carried = { chartCarried };
-
-    fn number(&self) -> u8 {
-        match self {
+    fn refusal(&self) -> Refusal {
+        let number = match self {
             ChartFault::NoSize => 5,
             ChartFault::OutOfRange => 6,
             ChartFault::TooLong => 15,
-        }
-    }
-
-    fn carried(&self) -> Carried {
-        Carried::Nothing
+        };
+        Refusal { number, carried: Carried::Nothing }
     }
 }
 
@@ -39,18 +35,12 @@ pub enum SettingFault {
     OutOfRange,
 }
 
-pub impl Refusal for SettingFault as SettingFaultRefusal {
-    ghost number = { settingNumber };
+pub impl Fault for SettingFault as SettingFaultRefusal {
+    ghost refusal = { settingRefusal };
 
-    ghost carried = { settingCarried };
-
-    fn number(&self) -> u8 {
+    fn refusal(&self) -> Refusal {
         match self {
-            SettingFault::OutOfRange => 4,
+            SettingFault::OutOfRange => Refusal { number: 4, carried: Carried::Nothing },
         }
-    }
-
-    fn carried(&self) -> Carried {
-        Carried::Nothing
     }
 }

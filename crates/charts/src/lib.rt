@@ -2,6 +2,7 @@
 mod chart;
 mod fault;
 mod scores;
+mod word;
 
 pub use chart::Chart;
 pub use fault::ChartFault;
@@ -13,3 +14,4 @@ pub use fault::SettingFaultDebug;
 pub use fault::SettingFaultPartialEq;
 pub use fault::SettingFaultRefusal;
 pub use scores::Scores;
+pub use word::alarms;

@@ -8,7 +8,7 @@ use charts::ChartFault;
 use charts::Scores;
 use common::is_score;
 
-#[derive(Clone, Copy)]
+#[derive(Drop)]
 pub struct Pair<A, B> {
     first: A,
     second: B,

@@ -5,5 +5,8 @@ mod score;
 pub use refusal::Carried;
 pub use refusal::CarriedDebug;
 pub use refusal::CarriedPartialEq;
+pub use refusal::Fault;
 pub use refusal::Refusal;
+pub use refusal::RefusalDebug;
+pub use refusal::RefusalPartialEq;
 pub use score::is_score;

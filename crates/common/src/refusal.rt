@@ -1,7 +1,12 @@
-// A refusal says its number, by docs/REFUSALS.md, and what it carries.
-ghost use Prim.Native.Nat.{ℕ};
+// A refusal is a number, by docs/REFUSALS.md, and what goes with it.
 ghost use mathlib.Core.Path.{_≡_};
-ghost use Rattle.common.specs.declared.refusal.Carried.{Carried};
+ghost use Rattle.common.specs.declared.refusal.Refusal.{Refusal};
+
+#[derive(Clone, Copy, Debug, PartialEq)]
+pub struct Refusal {
+    pub number: u8,
+    pub carried: Carried,
+}
 
 // What a refusal carries besides its number.
 #[derive(Clone, Copy, Debug, PartialEq)]
@@ -15,15 +20,10 @@ pub enum Carried {
     Place(usize),
 }
 
-// Every fault of the house is one: `number` and `carried` are defined over all its cases.
-pub trait Refusal {
-    ghost number: { Self → ℕ };
+// Why a call is declined. The refusal is defined over all cases of a fault.
+pub trait Fault {
+    ghost refusal: { Self → Refusal };
 
-    ghost carried: { Self → Carried };
-
-    fn number(&self) -> u8
-        ensures { λ r. ⌜ r ≡ number (now (self .entry)) ⌝ };
-
-    fn carried(&self) -> Carried
-        ensures { λ r. ⌜ r ≡ carried (now (self .entry)) ⌝ };
+    fn refusal(&self) -> Refusal
+        ensures { λ r. ⌜ r ≡ refusal (now (self .entry)) ⌝ };
 }

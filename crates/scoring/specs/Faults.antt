@@ -1,22 +1,15 @@
--- The numbers of a source's refusals, and what they carry.
---   sourceNumber    10 not a number, 11 below the range, 12 above it, 13 and 14 a score beyond 1,000 either way
---   sourceCarried   11 and 12 carry the reading, 13 the quotient, 14 the difference
-use Prim.Native.Nat.{ℕ}
-use Rattle.common.specs.declared.refusal.Carried.{Carried}
-use Rattle.common.specs.declared.refusal.Carried.the-variants.{Nothing, Value, Difference}
+-- The refusals of sources.
+--   sourceRefusal   10 not a number; 11 below the range and 12 above it, with the reading; 13 with the quotient and 14 with
+--                   the difference that make no score
+use Rattle.common.specs.Refusals.{bare, carrying}
+use Rattle.common.specs.declared.refusal.Carried.the-variants.{Value, Difference}
+use Rattle.common.specs.declared.refusal.Refusal.{Refusal}
 use Rattle.scoring.specs.declared.fault.SourceFault.{SourceFault}
 use Rattle.scoring.specs.declared.fault.SourceFault.the-variants.{NotANumber, Below, Above, OffScale, OffCount}
 
-abbrev pub sourceNumber : SourceFault → ℕ
-sourceNumber NotANumber = 10
-sourceNumber (Below reading) = 11
-sourceNumber (Above reading) = 12
-sourceNumber (OffScale quotient) = 13
-sourceNumber (OffCount difference) = 14
-
-abbrev pub sourceCarried : SourceFault → Carried
-sourceCarried NotANumber = Nothing
-sourceCarried (Below reading) = Value reading
-sourceCarried (Above reading) = Value reading
-sourceCarried (OffScale quotient) = Value quotient
-sourceCarried (OffCount difference) = Difference difference
+abbrev pub sourceRefusal : SourceFault → Refusal
+sourceRefusal NotANumber = bare 10
+sourceRefusal (Below reading) = carrying 11 (Value reading)
+sourceRefusal (Above reading) = carrying 12 (Value reading)
+sourceRefusal (OffScale quotient) = carrying 13 (Value quotient)
+sourceRefusal (OffCount difference) = carrying 14 (Difference difference)

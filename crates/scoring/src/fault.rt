@@ -1,6 +1,7 @@
 // Why a source declines a reading.
-ghost use Rattle.scoring.specs.Faults.{sourceNumber, sourceCarried};
+ghost use Rattle.scoring.specs.Faults.{sourceRefusal};
 use common::Carried;
+use common::Fault;
 use common::Refusal;
 
 #[derive(Clone, Copy, Debug, PartialEq)]
@@ -16,28 +17,17 @@ pub enum SourceFault {
     OffCount(i32),
 }
 
-pub impl Refusal for SourceFault as SourceFaultRefusal {
-    ghost number = { sourceNumber };
+pub impl Fault for SourceFault as SourceFaultRefusal {
+    ghost refusal = { sourceRefusal };
 
-    ghost carried = { sourceCarried };
-
-    fn number(&self) -> u8 {
-        match self {
-            SourceFault::NotANumber => 10,
-            SourceFault::Below(_) => 11,
-            SourceFault::Above(_) => 12,
-            SourceFault::OffScale(_) => 13,
-            SourceFault::OffCount(_) => 14,
-        }
-    }
-
-    fn carried(&self) -> Carried {
-        match self {
-            SourceFault::NotANumber => Carried::Nothing,
-            SourceFault::Below(reading) => Carried::Value(*reading),
-            SourceFault::Above(reading) => Carried::Value(*reading),
-            SourceFault::OffScale(quotient) => Carried::Value(*quotient),
-            SourceFault::OffCount(difference) => Carried::Difference(*difference),
-        }
+    fn refusal(&self) -> Refusal {
+        let (number, carried) = match self {
+            SourceFault::NotANumber => (10, Carried::Nothing),
+            SourceFault::Below(reading) => (11, Carried::Value(*reading)),
+            SourceFault::Above(reading) => (12, Carried::Value(*reading)),
+            SourceFault::OffScale(quotient) => (13, Carried::Value(*quotient)),
+            SourceFault::OffCount(difference) => (14, Carried::Difference(*difference)),
+        };
+        Refusal { number, carried }
     }
 }
