@@ -1,8 +1,10 @@
 // What the command line asks for: a source, and the leaves that are set side by side.
 use crate::arguments::Arguments;
+use crate::complaint::refused;
+use crate::complaint::unfit;
 use charts::SettingFault;
 use charts::SettingFaultRefusal;
-use common::Refusal;
+use common::Fault;
 use leaves::Page;
 use leaves::Shewhart;
 use scoring::Count;
@@ -27,25 +29,24 @@ pub fn request_of(heap: Global, words: &[String]) -> Result<Request, AnyError> {
 
 fn count_of(heap: Global, arguments: &mut Arguments<'_>) -> Result<Count, AnyError> {
     arguments.keyword(heap, "count")?;
-    let centre = arguments.whole(heap, "the centre")?;
-    if let Ok(centre) = unsigned(centre) {
-        return Ok(Count::new(centre));
+    let word = arguments.next_word();
+    match word.parse::<u16>() {
+        Ok(centre) => Ok(Count::new(centre)),
+        Err(_) => Err(unfit(heap, "argument", 2, "a centre from 0 to 65535", word)?),
     }
-    let place = arguments.place();
-    Err(format!(heap, "argument {place} is no centre from 0 to 65535, but {centre}")?.into())
 }
 
 fn page_of(heap: Global, arguments: &mut Arguments<'_>) -> Result<Page, AnyError> {
     arguments.keyword(heap, "page")?;
     let place = arguments.place();
-    let h = arguments.whole(heap, "h of page")?;
-    let k = arguments.whole(heap, "k of page")?;
-    let s0 = arguments.whole(heap, "s0 of page")?;
+    let h = arguments.whole(heap, "h of page, a whole number")?;
+    let k = arguments.whole(heap, "k of page, a whole number")?;
+    let s0 = arguments.whole(heap, "s0 of page, a whole number")?;
     match page_from(h, k, s0) {
         Ok(page) => Ok(page),
         Err(fault) => {
-            let number = fault.number();
-            Err(format!(heap, "refusal {number} at argument {place}: h is 1 to 4096, k -1000 to 1000, s0 0 to h - 1: page {h} {k} {s0}")?.into())
+            let rule = "page takes h from 1 to 4096, k from -1000 to 1000, s0 from 0 to h - 1";
+            Err(refused(heap, fault.refusal().number, "argument", place, rule)?)
         }
     }
 }
@@ -53,13 +54,10 @@ fn page_of(heap: Global, arguments: &mut Arguments<'_>) -> Result<Page, AnyError
 fn shewhart_of(heap: Global, arguments: &mut Arguments<'_>) -> Result<Shewhart, AnyError> {
     arguments.keyword(heap, "shewhart")?;
     let place = arguments.place();
-    let c = arguments.whole(heap, "c of shewhart")?;
+    let c = arguments.whole(heap, "c of shewhart, a whole number")?;
     match shewhart_from(c) {
         Ok(shewhart) => Ok(shewhart),
-        Err(fault) => {
-            let number = fault.number();
-            Err(format!(heap, "refusal {number} at argument {place}: c is -1000 to 1000: shewhart {c}")?.into())
-        }
+        Err(fault) => Err(refused(heap, fault.refusal().number, "argument", place, "shewhart takes c from -1000 to 1000")?),
     }
 }
 
