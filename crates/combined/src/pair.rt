@@ -10,17 +10,8 @@ use common::is_score;
 
 #[derive(Drop)]
 pub struct Pair<A, B> {
-    first: A,
-    second: B,
-}
-
-impl<A, B> Pair<A, B> {
-    pub fn new(first: A, second: B) -> Pair<A, B>
-        ensures first { λ r. ⌜ r .first ≡ first ⌝ }
-        ensures second { λ r. ⌜ r .second ≡ second ⌝ }
-    {
-        Pair { first, second }
-    }
+    pub first: A,
+    pub second: B,
 }
 
 pub impl<A: Chart, B: Chart> Chart for Pair<A, B> as PairChart {

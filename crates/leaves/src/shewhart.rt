@@ -12,6 +12,10 @@ use charts::Scores;
 use charts::SettingFault;
 use common::is_score;
 
+// It remembers nothing.
+const STATES: u32 = 1;
+const START: u32 = 0;
+
 #[derive(Clone, Copy)]
 pub struct Shewhart {
     c: i16,
@@ -44,7 +48,7 @@ pub impl Chart for Shewhart as ShewhartChart {
     ghost look = { λ s. shewhart (s .c) .look };
 
     fn size(&self) -> Option<u32> {
-        Some(1)
+        Some(STATES)
     }
 
     fn leaves(&self) -> Option<u32> {
@@ -52,12 +56,12 @@ pub impl Chart for Shewhart as ShewhartChart {
     }
 
     fn start(&self) -> Result<u32, ChartFault> {
-        Ok(0)
+        Ok(START)
     }
 
     fn step(&self, state: u32, score: i16) -> Result<(u32, u16), ChartFault> {
-        if state < 1 && is_score(score as i32) {
-            Ok((0, (score > self.c) as u16))
+        if state < STATES && is_score(score as i32) {
+            Ok((START, (score > self.c) as u16))
         } else {
             Err(ChartFault::OutOfRange)
         }
