@@ -30,7 +30,7 @@ pub impl<A: Chart, B: Chart> Chart for Pair<A, B> as PairChart {
     fn size(&self) -> Option<u32> {
         let leaves = self.leaves();
         match (self.first.size(), self.second.size()) {
-            (Some(p), Some(q)) if leaves.is_some() && p as u64 * q as u64 <= 65536 => Some(p * q),
+            (Some(p), Some(q)) if leaves.is_some() && 65536 >= p as u64 * q as u64 => Some(p * q),
             _ => None,
         }
     }

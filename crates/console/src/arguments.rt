@@ -20,7 +20,7 @@ impl<'a> Arguments<'a> {
     }
 
     // The next word; none is as an empty one.
-    pub fn next_word(&mut self) -> &'a str {
+    fn next_word(&mut self) -> &'a str {
         let at = self.place;
         if at >= self.words.len() {
             return "";
@@ -35,10 +35,19 @@ impl<'a> Arguments<'a> {
         if word == what { Ok(()) } else { Err(unfit(heap, "argument", place, what, word)?) }
     }
 
-    pub fn whole(&mut self, heap: Global, what: &str) -> Result<i64, AnyError> {
+    pub fn unsigned(&mut self, heap: Global, what: &str) -> Result<u16, AnyError> {
         let place = self.place.saturating_add(1);
         let word = self.next_word();
-        match word.parse::<i64>() {
+        match word.parse::<u16>() {
+            Ok(n) => Ok(n),
+            Err(_) => Err(unfit(heap, "argument", place, what, word)?),
+        }
+    }
+
+    pub fn signed(&mut self, heap: Global, what: &str) -> Result<i16, AnyError> {
+        let place = self.place.saturating_add(1);
+        let word = self.next_word();
+        match word.parse::<i16>() {
             Ok(n) => Ok(n),
             Err(_) => Err(unfit(heap, "argument", place, what, word)?),
         }
