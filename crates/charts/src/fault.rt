@@ -24,7 +24,10 @@ pub impl Fault for ChartFault as ChartFaultRefusal {
             ChartFault::OutOfRange => 6,
             ChartFault::TooLong => 15,
         };
-        Refusal { number, carried: Carried::Nothing }
+        Refusal {
+            number,
+            carried: Carried::Nothing,
+        }
     }
 }
 
@@ -40,7 +43,10 @@ pub impl Fault for SettingFault as SettingFaultRefusal {
 
     fn refusal(&self) -> Refusal {
         match self {
-            SettingFault::OutOfRange => Refusal { number: 4, carried: Carried::Nothing },
+            SettingFault::OutOfRange => Refusal {
+                number: 4,
+                carried: Carried::Nothing,
+            },
         }
     }
 }

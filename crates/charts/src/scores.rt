@@ -23,7 +23,11 @@ impl<'a> Scores<'a> {
         if self.list.len() > 4096 {
             return Err(ChartFault::TooLong);
         }
-        if are_scores(self.list) { Ok(()) } else { Err(ChartFault::OutOfRange) }
+        if are_scores(self.list) {
+            Ok(())
+        } else {
+            Err(ChartFault::OutOfRange)
+        }
     }
 
     // The latest score, and the scores before it.

@@ -37,8 +37,8 @@ module _ (a b : Model) (la : Lawful a) (lb : Lawful b) (n : ℕ) (e : pair a b .
       let fi = started-is (a .size) (a .start) first f in
       let si = started-is (b .size) (b .start) second s in
       state-fits first second
-        (subst (λ m. m < known .p) (sym fi) (sized-first a b la lb n known .start-below))
-        (subst (λ m. m < known .q) (sym si) (sized-second a b la lb n known .start-below))
+      (subst (λ m. m < known .p) (sym fi) (sized-first a b la lb n known .start-below))
+      (subst (λ m. m < known .q) (sym si) (sized-second a b la lb n known .start-below))
 
   -- the first takes a step that the pair takes
   pub first-takes : (s : ℕ) (x : ℤ) (fault : ChartFault) → s < n → Score x → stepped (a .size) (a .next) (a .word) (s / q) x ≡ Err fault → ⊥
@@ -58,8 +58,8 @@ module _ (a b : Model) (la : Lawful a) (lb : Lawful b) (n : ℕ) (e : pair a b .
       let below-one : s / q < known .p = let same : one .n ≡ known .p = some-same (one .sized) (known .first) in let h = one .below in omega arith in
       let below-two : s % q < known .q = let same : two .n ≡ known .q = some-same (two .sized) (known .second) in let h = two .below in omega arith in
       state-fits first second
-        (subst (λ m. m < known .p) (sym (one .state)) (sized-first a b la lb n known .next-below (s / q) x below-one (one .score)))
-        (subst (λ m. m < known .q) (sym (two .state)) (sized-second a b la lb n known .next-below (s % q) x below-two (two .score)))
+      (subst (λ m. m < known .p) (sym (one .state)) (sized-first a b la lb n known .next-below (s / q) x below-one (one .score)))
+      (subst (λ m. m < known .q) (sym (two .state)) (sized-second a b la lb n known .next-below (s % q) x below-two (two .score)))
 
 -- what `join` asks of the words of both
 pub record Joins (leaves low high : ℕ) : Type 0 where
@@ -80,8 +80,8 @@ module _ (a b : Model) (la : Lawful a) (lb : Lawful b) (n : ℕ) (e : pair a b .
       let one = stepped-is (a .size) (a .next) (a .word) s x first low f in
       let two = stepped-is (b .size) (b .next) (b .word) t x second high g in
       words-join low high
-        (subst (λ m. m < 2 ^ a .leaves) (sym (one .bits)) (la .sized (one .n) (one .sized) .word-below s x (one .below) (one .score)))
-        (subst (λ m. m < 2 ^ b .leaves) (sym (two .bits)) (lb .sized (two .n) (two .sized) .word-below t x (two .below) (two .score)))
+      (subst (λ m. m < 2 ^ a .leaves) (sym (one .bits)) (la .sized (one .n) (one .sized) .word-below s x (one .below) (one .score)))
+      (subst (λ m. m < 2 ^ b .leaves) (sym (two .bits)) (lb .sized (two .n) (two .sized) .word-below t x (two .below) (two .score)))
 
   pub looks-join : (xs : List ℤ) (low high : ℕ) → looked (a .size) (a .look) xs ≡ Ok low → looked (b .size) (b .look) xs ≡ Ok high → Joins leaves low high
   looks-join xs low high f s =
@@ -90,5 +90,5 @@ module _ (a b : Model) (la : Lawful a) (lb : Lawful b) (n : ℕ) (e : pair a b .
       let two = looked-is (b .size) (b .look) xs high s in
       let scores = all-scores xs (passed xs (one .1) .scores) in
       words-join low high
-        (subst (λ m. m < 2 ^ a .leaves) (sym (one .0)) (sized-first a b la lb n known .look-below xs scores))
-        (subst (λ m. m < 2 ^ b .leaves) (sym (two .0)) (sized-second a b la lb n known .look-below xs scores))
+      (subst (λ m. m < 2 ^ a .leaves) (sym (one .0)) (sized-first a b la lb n known .look-below xs scores))
+      (subst (λ m. m < 2 ^ b .leaves) (sym (two .0)) (sized-second a b la lb n known .look-below xs scores))

@@ -52,7 +52,11 @@ pub impl<A: Chart, B: Chart> Chart for Pair<A, B> as PairChart {
     }
 
     fn step(&self, state: u32, score: i16) -> Result<(u32, u16), ChartFault> {
-        let (Some(size), Some(q), Some(leaves)) = (self.size(), self.second.size(), self.first.leaves()) else {
+        let (Some(size), Some(q), Some(leaves)) = (
+            self.size(),
+            self.second.size(),
+            self.first.leaves(),
+        ) else {
             return Err(ChartFault::NoSize);
         };
         if state >= size || !is_score(score as i32) {

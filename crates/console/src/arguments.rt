@@ -32,7 +32,11 @@ impl<'a> Arguments<'a> {
     pub fn keyword(&mut self, heap: Global, what: &str) -> Result<(), AnyError> {
         let place = self.place.saturating_add(1);
         let word = self.next_word();
-        if word == what { Ok(()) } else { Err(unfit(heap, "argument", place, what, word)?) }
+        if word == what {
+            Ok(())
+        } else {
+            Err(unfit(heap, "argument", place, what, word)?)
+        }
     }
 
     pub fn unsigned(&mut self, heap: Global, what: &str) -> Result<u16, AnyError> {

@@ -3,9 +3,9 @@ use crate::arguments::Arguments;
 use crate::complaint::refused;
 use charts::SettingFaultRefusal;
 use common::Fault;
-use leaves::Page;
-use leaves::Shewhart;
+use page::Page;
 use scoring::Count;
+use shewhart::Shewhart;
 use std::alloc::Global;
 use std::error::AnyError;
 
@@ -22,7 +22,11 @@ pub fn request_of(heap: Global, words: &[String]) -> Result<Request, AnyError> {
     let page = page_of(heap, &mut arguments)?;
     let shewhart = shewhart_of(heap, &mut arguments)?;
     arguments.end(heap)?;
-    Ok(Request { count, page, shewhart })
+    Ok(Request {
+        count,
+        page,
+        shewhart,
+    })
 }
 
 fn count_of(heap: Global, arguments: &mut Arguments<'_>) -> Result<Count, AnyError> {
@@ -51,6 +55,14 @@ fn shewhart_of(heap: Global, arguments: &mut Arguments<'_>) -> Result<Shewhart, 
     let c = arguments.signed(heap, "c of shewhart, from -1000 to 1000")?;
     match Shewhart::new(c) {
         Ok(shewhart) => Ok(shewhart),
-        Err(fault) => Err(refused(heap, fault.refusal().number, "argument", place, "shewhart takes c from -1000 to 1000")?),
+        Err(fault) => Err(
+            refused(
+                heap,
+                fault.refusal().number,
+                "argument",
+                place,
+                "shewhart takes c from -1000 to 1000",
+            )?,
+        ),
     }
 }

@@ -64,4 +64,96 @@ mod tests {
             ],
         )
     }
+
+    const GOOD: &str = "count 100 page 10 1 4 shewhart 6";
+
+    #[test]
+    fn complaints(rt: LibcRuntime) -> Result<(), Fail> {
+        check_all(
+            rt.alloc(),
+            &[
+                Case {
+                    arguments: "",
+                    input: b"",
+                    answer: "!argument 1 is to be count, and is ''",
+                },
+                Case {
+                    arguments: "count",
+                    input: b"",
+                    answer: "!argument 2 is to be a centre from 0 to 65535, and is ''",
+                },
+                Case {
+                    arguments: "count 65536",
+                    input: b"",
+                    answer: "!argument 2 is to be a centre from 0 to 65535, and is '65536'",
+                },
+                Case {
+                    arguments: "count 100 walk 4",
+                    input: b"",
+                    answer: "!argument 3 is to be page, and is 'walk'",
+                },
+                Case {
+                    arguments: "count 100 page x",
+                    input: b"",
+                    answer: "!argument 4 is to be h of page, from 1 to 4096, and is 'x'",
+                },
+                Case {
+                    arguments: "count 100 page 10 1 10 shewhart 6",
+                    input: b"",
+                    answer: "!refusal 4 at argument 3: page takes h from 1 to 4096, k from -1000 to 1000, s0 from 0 to h - 1",
+                },
+                Case {
+                    arguments: "count 100 page 10 1 4 shewhart 1001",
+                    input: b"",
+                    answer: "!refusal 4 at argument 7: shewhart takes c from -1000 to 1000",
+                },
+                Case {
+                    arguments: "count 100 page 10 1 4 shewhart 6 7",
+                    input: b"",
+                    answer: "!argument 9 is to be the end, and is '7'",
+                },
+                Case {
+                    arguments: GOOD,
+                    input: b"102\n\n103\n",
+                    answer: "!line 2 is to be a whole number from 0 to 65535, and is ''",
+                },
+                Case {
+                    arguments: GOOD,
+                    input: b"102\n12.5\n",
+                    answer: "!line 2 is to be a whole number from 0 to 65535, and is '12.5'",
+                },
+                Case {
+                    arguments: GOOD,
+                    input: b"102\n\xff\n",
+                    answer: "!line 2 is to be a whole number from 0 to 65535, and is 'not text'",
+                },
+                Case {
+                    arguments: GOOD,
+                    input: b"102\n100\n1101\n",
+                    answer: "!refusal 22 at line 3: a count scores within 1000 of the centre (refusal 14)",
+                },
+            ],
+        )
+    }
+
+    #[test]
+    fn longest(rt: LibcRuntime) -> Result<(), Fail> {
+        let heap = rt.alloc();
+        let mut column = String::new(heap);
+        for _ in 0..4096 {
+            column.push_str("100\n")?;
+        }
+        let text = answer(heap, GOOD, column.as_bytes())?;
+        check(
+            text.as_str().ends_with(
+                "word 0\npage does not alarm on the last morning\nshewhart does not alarm on the last morning\n",
+            ),
+        )?;
+        column.push_str("100\n")?;
+        let text = answer(heap, GOOD, column.as_bytes())?;
+        check_eq(
+            text.as_str(),
+            "!refusal 15 at line 4097: a look-back takes 4096 counts at most",
+        )
+    }
 }

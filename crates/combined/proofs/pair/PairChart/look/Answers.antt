@@ -7,6 +7,6 @@ pub join-requires : need.join-requires
 join-requires g c κs =
     let self = c .args .self .now in
     let joins = looks-join _ _ (g .A·Chart·met .lawful (self .first)) (g .B·Chart·met .lawful (self .second)) _
-        (sym (c .size .ensures) ∙ c .in-Some-Some .is-0) _ (sym (c .leaves .ensures) ∙ c .in-Some-Some .is-1) (listed (c .args .scores)) _ _
-        (sym (c .look .ensures) ∙ c .in-Continue-low .was tt) (sym (c .look-2 .ensures) ∙ c .in-Continue-high .was tt) in
+    (sym (c .size .ensures) ∙ c .in-Some-Some .is-0) _ (sym (c .leaves .ensures) ∙ c .in-Some-Some .is-1) (listed (c .args .scores)) _ _
+    (sym (c .look .ensures) ∙ c .in-Continue-low .was tt) (sym (c .look-2 .ensures) ∙ c .in-Continue-high .was tt) in
     record { narrow = joins .narrow; fits = joins .fits }

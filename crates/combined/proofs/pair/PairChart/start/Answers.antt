@@ -9,8 +9,8 @@ fit : (g : Over) (c : need.In-Continue-second g) → c .in-Continue-first .first
 fit g c =
     let self = c .args .self .now in
     starts-fit _ _ (g .A·Chart·met .lawful (self .first)) (g .B·Chart·met .lawful (self .second)) _
-      (sym (c .size .ensures) ∙ c .in-Some-Some .is-0) _ (sym (c .size-2 .ensures) ∙ c .in-Some-Some .is-1) _ _
-      (sym (c .start .ensures) ∙ c .in-Continue-first .was tt) (sym (c .start-2 .ensures) ∙ c .in-Continue-second .was tt)
+    (sym (c .size .ensures) ∙ c .in-Some-Some .is-0) _ (sym (c .size-2 .ensures) ∙ c .in-Some-Some .is-1) _ _
+    (sym (c .start .ensures) ∙ c .in-Continue-first .was tt) (sym (c .start-2 .ensures) ∙ c .in-Continue-second .was tt)
 
 pub mul-result : need.mul-result
 mul-result g c = let h = fit g c in omega arith

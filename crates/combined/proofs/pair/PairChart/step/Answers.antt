@@ -17,23 +17,23 @@ returns-in-Break-first g c =
     let wide : toZ w32 (ofZ w32 (toZ w16 (ofZ w16 (c .args .score)))) ≡ toZ w16 (ofZ w16 (c .args .score)) = omega (arith, ints) in
     let score : Score (toZ w16 (ofZ w16 (c .args .score))) = sym (ap isScore wide) ∙ sym (c .is-score .ensures) ∙ c .if-not-is-score .left in
     absurd (first-takes _ _ (g .A·Chart·met .lawful (self .first)) (g .B·Chart·met .lawful (self .second)) _
-      (sym (c .size .ensures) ∙ c .in-Some-Some-Some .is-0) _ (sym (c .size-2 .ensures) ∙ c .in-Some-Some-Some .is-1)
-      (c .args .state) _ _ (c .if-state-size .left) score (sym (c .step .ensures) ∙ c .in-Break-first .was tt))
+    (sym (c .size .ensures) ∙ c .in-Some-Some-Some .is-0) _ (sym (c .size-2 .ensures) ∙ c .in-Some-Some-Some .is-1)
+    (c .args .state) _ _ (c .if-state-size .left) score (sym (c .step .ensures) ∙ c .in-Break-first .was tt))
 
 pub join-word-requires : need.join-word-requires
 join-word-requires g c κs =
     let self = c .args .self .now in
     let joins = steps-join _ _ (g .A·Chart·met .lawful (self .first)) (g .B·Chart·met .lawful (self .second)) _
-        (sym (c .size .ensures) ∙ c .in-Some-Some-Some .is-0) _ (sym (c .leaves .ensures) ∙ c .in-Some-Some-Some .is-2) _ _ _ _ _ _ _
-        (sym (c .step .ensures) ∙ c .in-Continue-first .was tt) (sym (c .step-2 .ensures) ∙ c .in-Continue-second .was tt) in
+    (sym (c .size .ensures) ∙ c .in-Some-Some-Some .is-0) _ (sym (c .leaves .ensures) ∙ c .in-Some-Some-Some .is-2) _ _ _ _ _ _ _
+    (sym (c .step .ensures) ∙ c .in-Continue-first .was tt) (sym (c .step-2 .ensures) ∙ c .in-Continue-second .was tt) in
     record { narrow = joins .narrow; fits = joins .fits }
 
 fit : (g : Over) (c : need.Then-word-eq0 g) → c .in-Continue-first .first * c .in-Some-Some-Some .q + c .in-Continue-second .second < 2 ^ 32
 fit g c =
     let self = c .args .self .now in
     steps-fit _ _ (g .A·Chart·met .lawful (self .first)) (g .B·Chart·met .lawful (self .second)) _
-      (sym (c .size .ensures) ∙ c .in-Some-Some-Some .is-0) _ (sym (c .size-2 .ensures) ∙ c .in-Some-Some-Some .is-1) (c .args .state) _ _ _ _ _
-      (sym (c .step .ensures) ∙ c .in-Continue-first .was tt) (sym (c .step-2 .ensures) ∙ c .in-Continue-second .was tt)
+    (sym (c .size .ensures) ∙ c .in-Some-Some-Some .is-0) _ (sym (c .size-2 .ensures) ∙ c .in-Some-Some-Some .is-1) (c .args .state) _ _ _ _ _
+    (sym (c .step .ensures) ∙ c .in-Continue-first .was tt) (sym (c .step-2 .ensures) ∙ c .in-Continue-second .was tt)
 
 pub mul-result : need.mul-result
 mul-result g c = let h = fit g c in omega arith

@@ -1,4 +1,0 @@
-pub mod MaskLaws
-pub mod PageLaws
-pub mod ShewhartLaws
-pub mod Words

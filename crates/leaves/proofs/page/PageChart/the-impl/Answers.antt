@@ -1,5 +1,0 @@
-use Rattle.leaves.proofs.PageLaws.{page-lawful}
-use Rattle.leaves.proofs.page.PageChart.the-impl.Needs as need
-
-pub lawful-law : need.lawful-law
-lawful-law p = page-lawful (p .h) (p .k) (p .s0) (p .few) (p .ahead)

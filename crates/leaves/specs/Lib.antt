@@ -1,4 +1,0 @@
-pub mod Bits
-pub mod Page
-pub mod Settings
-pub mod Shewhart
