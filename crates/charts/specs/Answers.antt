@@ -2,6 +2,7 @@
 --   within    a number of leaves, absent where it passes 16
 --   started   the start state, or refusal 5
 --   stepped   next state and word together; 5 where the size is absent, then 6 for a state not below it or no score
+--   taken     the word, where the check of the list passes; else its refusal
 --   looked    the look-back word of a list; 5 where the size is absent, then 15 or 6 where the list is refused
 use mathlib.Core.Bool.{cond, _&&_}
 use Prim.Native.Nat.{ℕ}
@@ -28,7 +29,6 @@ abbrev pub stepped : Option ℕ → (ℕ → ℤ → ℕ) → (ℕ → ℤ → �
 stepped None next word s x = Err NoSize
 stepped (Some n) next word s x = cond (ltb s n && isScore x) (Ok (next s x, word s x)) (Err OutOfRange)
 
--- the word where the list is taken
 abbrev pub taken : Result (Unit {0}) ChartFault → ℕ → Result ℕ ChartFault
 taken (Ok ok) word = Ok word
 taken (Err fault) word = Err fault

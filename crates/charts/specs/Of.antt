@@ -1,4 +1,5 @@
--- The model of a chart of any type, from the ghost members of its `impl`.
+-- Charts of any type.
+--   of   the model of a chart, from the ghost members of its `impl`
 use Rattle.charts.specs.declared.chart.Chart.{Ghosts}
 use Rattle.charts.specs.Model.{Model}
 

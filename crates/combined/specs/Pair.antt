@@ -1,8 +1,9 @@
 -- Two charts side by side.
+--   product     the size: the product of both; absent where either is, above 65,536, and where the leaves together pass 16
 --   states      the number of states of a chart that has a size
---   pairSize    the product of the sizes; absent where either is, above 65,536, and where the leaves together pass 16
---   pairState   the state: the first's times the size of the second, plus the second's
 --   pairWord    the word: the first's bits, and above them the second's
+--   pairStart   the start state: the first's times the states of the second, plus the second's
+--   wordAt      the word at a state s and a score: the first is at s / states of the second, the second at the remainder
 --   pair        both charts; where either alarms, both go to their starts
 use mathlib.Core.Bool.{cond, _&&_}
 use mathlib.Core.List.{List}

@@ -28,10 +28,15 @@ pub impl<A: Chart, B: Chart> Chart for Pair<A, B> as PairChart {
     ghost look = { λ p. pair (of A·Chart (p .first)) (of B·Chart (p .second)) .look };
 
     fn size(&self) -> Option<u32> {
-        let leaves = self.leaves();
-        match (self.first.size(), self.second.size()) {
-            (Some(p), Some(q)) if leaves.is_some() && 65536 >= p as u64 * q as u64 => Some(p * q),
-            _ => None,
+        let (Some(p), Some(q), Some(_)) = (self.first.size(), self.second.size(), self.leaves())
+        else {
+            return None;
+        };
+        let size = p as u64 * q as u64;
+        if size <= 65536 {
+            Some(size as u32)
+        } else {
+            None
         }
     }
 

@@ -1,14 +1,11 @@
-// What a program reads and prints: its arguments, a column of counts, and the report of a look-back.
-mod arguments;
-mod complaint;
+// What `lookback` reads and prints: a column of counts, and the report of a look-back.
 mod counts;
 mod report;
-mod request;
 
+use arguments::request_of;
 use counts::counts_of;
 use report::look;
 use report::text_of;
-use request::request_of;
 use std::alloc::Global;
 use std::error::AnyError;
 

@@ -39,7 +39,7 @@ impl Page {
         }
     }
 
-    // What a score makes of a sum.
+    // What a score makes of a sum. 4,096 scores change a sum by at most 2,000 each.
     fn raise(&self, sum: i32, score: i16) -> i32
         requires low { ⌜ negsuc 8191999 ≤ℤ sum ⌝ }
         requires high { ⌜ sum ≤ℤ pos 8192000 ⌝ }

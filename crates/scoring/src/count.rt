@@ -1,5 +1,4 @@
 // A count of events, scored by its distance from a centre.
-ghost use mathlib.Core.Path.{_≡_};
 ghost use Rattle.scoring.specs.Count.{countScore};
 use crate::fault::SourceFault;
 use crate::source::Source;
@@ -7,15 +6,7 @@ use common::is_score;
 
 #[derive(Clone, Copy)]
 pub struct Count {
-    centre: u16,
-}
-
-impl Count {
-    pub fn new(centre: u16) -> Count
-        ensures { λ r. ⌜ r .centre ≡ centre ⌝ }
-    {
-        Count { centre }
-    }
+    pub centre: u16,
 }
 
 pub impl Source for Count as CountSource {

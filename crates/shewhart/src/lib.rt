@@ -1,5 +1,4 @@
 // The Shewhart limit: it alarms when the latest score is above c.
-ghost use lib.Signed.{ltZ};
 ghost use mathlib.Core.Bool.{true};
 ghost use mathlib.Core.Path.{_≡_};
 ghost use Rattle.common.specs.Made.{Made};

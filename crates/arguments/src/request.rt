@@ -1,6 +1,6 @@
 // What the command line asks for: a source, and the leaves that are set side by side.
-use crate::arguments::Arguments;
 use crate::complaint::refused;
+use crate::words::Words;
 use charts::SettingFaultRefusal;
 use common::Fault;
 use page::Page;
@@ -17,11 +17,11 @@ pub struct Request {
 }
 
 pub fn request_of(heap: Global, words: &[String]) -> Result<Request, AnyError> {
-    let mut arguments = Arguments::new(words);
-    let count = count_of(heap, &mut arguments)?;
-    let page = page_of(heap, &mut arguments)?;
-    let shewhart = shewhart_of(heap, &mut arguments)?;
-    arguments.end(heap)?;
+    let mut rest = Words::new(words);
+    let count = count_of(heap, &mut rest)?;
+    let page = page_of(heap, &mut rest)?;
+    let shewhart = shewhart_of(heap, &mut rest)?;
+    rest.end(heap)?;
     Ok(Request {
         count,
         page,
@@ -29,17 +29,19 @@ pub fn request_of(heap: Global, words: &[String]) -> Result<Request, AnyError> {
     })
 }
 
-fn count_of(heap: Global, arguments: &mut Arguments<'_>) -> Result<Count, AnyError> {
-    arguments.keyword(heap, "count")?;
-    Ok(Count::new(arguments.unsigned(heap, "a centre from 0 to 65535")?))
+fn count_of(heap: Global, words: &mut Words<'_>) -> Result<Count, AnyError> {
+    words.keyword(heap, "count")?;
+    Ok(Count {
+        centre: words.unsigned(heap, "a centre from 0 to 65535")?,
+    })
 }
 
-fn page_of(heap: Global, arguments: &mut Arguments<'_>) -> Result<Page, AnyError> {
-    arguments.keyword(heap, "page")?;
-    let place = arguments.place();
-    let h = arguments.unsigned(heap, "h of page, from 1 to 4096")?;
-    let k = arguments.signed(heap, "k of page, from -1000 to 1000")?;
-    let s0 = arguments.unsigned(heap, "s0 of page, from 0 to h - 1")?;
+fn page_of(heap: Global, words: &mut Words<'_>) -> Result<Page, AnyError> {
+    words.keyword(heap, "page")?;
+    let place = words.place();
+    let h = words.unsigned(heap, "h of page, from 1 to 4096")?;
+    let k = words.signed(heap, "k of page, from -1000 to 1000")?;
+    let s0 = words.unsigned(heap, "s0 of page, from 0 to h - 1")?;
     match Page::new(h, k, s0) {
         Ok(page) => Ok(page),
         Err(fault) => {
@@ -49,10 +51,10 @@ fn page_of(heap: Global, arguments: &mut Arguments<'_>) -> Result<Page, AnyError
     }
 }
 
-fn shewhart_of(heap: Global, arguments: &mut Arguments<'_>) -> Result<Shewhart, AnyError> {
-    arguments.keyword(heap, "shewhart")?;
-    let place = arguments.place();
-    let c = arguments.signed(heap, "c of shewhart, from -1000 to 1000")?;
+fn shewhart_of(heap: Global, words: &mut Words<'_>) -> Result<Shewhart, AnyError> {
+    words.keyword(heap, "shewhart")?;
+    let place = words.place();
+    let c = words.signed(heap, "c of shewhart, from -1000 to 1000")?;
     match Shewhart::new(c) {
         Ok(shewhart) => Ok(shewhart),
         Err(fault) => Err(

@@ -4,14 +4,14 @@ use std::alloc::Global;
 use std::error::AnyError;
 
 #[derive(Drop)]
-pub struct Arguments<'a> {
+pub struct Words<'a> {
     words: &'a [String],
     place: usize,
 }
 
-impl<'a> Arguments<'a> {
-    pub fn new(words: &'a [String]) -> Arguments<'a> {
-        Arguments { words, place: 0 }
+impl<'a> Words<'a> {
+    pub fn new(words: &'a [String]) -> Words<'a> {
+        Words { words, place: 0 }
     }
 
     // The place of the word that was read last.
