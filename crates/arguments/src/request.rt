@@ -1,32 +1,29 @@
 // What the command line asks for: a source, and the leaves that are set side by side.
-use crate::complaint::refused;
 use crate::words::Words;
 use charts::SettingFaultRefusal;
+use combined::Pair;
 use common::Fault;
+use complaints::refused;
 use page::Page;
 use scoring::Count;
 use shewhart::Shewhart;
 use std::alloc::Global;
 use std::error::AnyError;
 
-#[derive(Clone, Copy)]
+#[derive(Drop)]
 pub struct Request {
-    pub count: Count,
-    pub page: Page,
-    pub shewhart: Shewhart,
+    pub source: Count,
+    pub chart: Pair<Page, Shewhart>,
 }
 
 pub fn request_of(heap: Global, words: &[String]) -> Result<Request, AnyError> {
     let mut rest = Words::new(words);
-    let count = count_of(heap, &mut rest)?;
-    let page = page_of(heap, &mut rest)?;
-    let shewhart = shewhart_of(heap, &mut rest)?;
+    let source = count_of(heap, &mut rest)?;
+    let first = page_of(heap, &mut rest)?;
+    let second = shewhart_of(heap, &mut rest)?;
     rest.end(heap)?;
-    Ok(Request {
-        count,
-        page,
-        shewhart,
-    })
+    let chart = Pair { first, second };
+    Ok(Request { source, chart })
 }
 
 fn count_of(heap: Global, words: &mut Words<'_>) -> Result<Count, AnyError> {

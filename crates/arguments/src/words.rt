@@ -1,5 +1,5 @@
 // The words of the command line, read one after the other. Places count from 1.
-use crate::complaint::unfit;
+use complaints::unfit;
 use std::alloc::Global;
 use std::error::AnyError;
 

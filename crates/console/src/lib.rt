@@ -2,10 +2,13 @@
 mod counts;
 mod report;
 
-use arguments::request_of;
+use combined::Pair;
 use counts::counts_of;
+use page::Page;
 use report::look;
 use report::text_of;
+use scoring::Count;
+use shewhart::Shewhart;
 use std::alloc::Global;
 use std::error::AnyError;
 
@@ -24,10 +27,9 @@ whether Page's rule or the Shewhart limit alarms on the last morning.
 Example: printf '102\\n100\\n103\\n107\\n' | lookback count 100 page 10 1 4 shewhart 6
 ";
 
-// What `lookback` prints for these arguments and this input, or why it declines.
-pub fn lookback(heap: Global, words: &[String], input: &[u8]) -> Result<String, AnyError> {
-    let request = request_of(heap, words)?;
-    let counts = counts_of(heap, input)?;
-    let report = look(heap, &request, counts.as_slice())?;
+// What `lookback` prints for this column of counts, or why it declines.
+pub fn report_of(heap: Global, source: &Count, chart: &Pair<Page, Shewhart>, column: &[u8]) -> Result<String, AnyError> {
+    let counts = counts_of(heap, column)?;
+    let report = look(heap, source, chart, counts.as_slice())?;
     text_of(heap, counts.as_slice(), &report)
 }

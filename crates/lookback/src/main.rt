@@ -1,6 +1,7 @@
 // lookback: whether Page's rule or the Shewhart limit alarms on the last morning of a column of counts, and which of them.
+use arguments::request_of;
 use console::LOOKBACK_HELP;
-use console::lookback;
+use console::report_of;
 use std::env;
 use std::error::AnyError;
 use std::io::Read;
@@ -24,12 +25,14 @@ fn run(rt: &LibcRuntime) -> Result<(), AnyError> {
     if asks_help(words.as_slice()) {
         return Ok(rt.print(LOOKBACK_HELP)?);
     }
+    let request = request_of(heap, words.as_slice())?;
     let mut input = Vec::new(heap);
     rt.stdin().take(MOST + 1).read_to_end(&mut input)?;
     if input.len() as u64 > MOST {
         return Err("the input is longer than a megabyte".into());
     }
-    Ok(rt.print(lookback(heap, words.as_slice(), input.as_slice())?)?)
+    let text = report_of(heap, &request.source, &request.chart, input.as_slice())?;
+    Ok(rt.print(text)?)
 }
 
 fn asks_help(words: &[String]) -> bool {

@@ -1,18 +1,25 @@
 // What `lookback` prints, and what it complains of, case by case.
 #[cfg(test)]
 mod tests {
-    use console::lookback;
+    use arguments::request_of;
+    use console::report_of;
     use std::alloc::Global;
     use std::error::AnyError;
     use std::test::*;
 
-    // What is printed for these arguments, with a blank between, and this input; or the complaint, after a `!`.
-    fn answer(heap: Global, arguments: &str, input: &[u8]) -> Result<String, AnyError> {
+    // What `lookback` prints.
+    fn printed(heap: Global, arguments: &str, input: &[u8]) -> Result<String, AnyError> {
         let mut words = Vec::new(heap);
         for word in arguments.split_whitespace() {
             words.push(String::from_str(heap, word)?)?;
         }
-        match lookback(heap, words.as_slice(), input) {
+        let request = request_of(heap, words.as_slice())?;
+        report_of(heap, &request.source, &request.chart, input)
+    }
+
+    // The same, or its complaint after a `!`.
+    fn answer(heap: Global, arguments: &str, input: &[u8]) -> Result<String, AnyError> {
+        match printed(heap, arguments, input) {
             Ok(text) => Ok(text),
             Err(error) => Ok(format!(heap, "!{error}")?),
         }
