@@ -28,7 +28,12 @@ Example: printf '102\\n100\\n103\\n107\\n' | lookback count 100 page 10 1 4 shew
 ";
 
 // What `lookback` prints for this column of counts, or why it declines.
-pub fn report_of(heap: Global, source: &Count, chart: &Pair<Page, Shewhart>, column: &[u8]) -> Result<String, AnyError> {
+pub fn report_of(
+    heap: Global,
+    source: &Count,
+    chart: &Pair<Page, Shewhart>,
+    column: &[u8],
+) -> Result<String, AnyError> {
     let counts = counts_of(heap, column)?;
     let report = look(heap, source, chart, counts.as_slice())?;
     text_of(heap, counts.as_slice(), &report)
