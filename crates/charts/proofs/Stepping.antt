@@ -3,28 +3,34 @@ use mathlib.Core.Path.{_≡_, refl, sym, ap, _∙_}
 use mathlib.Core.Bool.{Bool, true, false, cond, _&&_}
 use Prim.Native.Nat.{ℕ, _<_, _≤_}
 use native.Mathlib.Omega.{arith}
-use lib.Dec.{leb, ltb}
+use lib.Dec.{ltb}
 use lib.IntN.{ℤ}
 use lib.ListN.{length}
 use mathlib.Core.List.{List}
+use Rattle.std.specs.Options.{isSome}
 use Rattle.std.specs.declared.option.Option.{Option}
 use Rattle.std.specs.declared.option.Option.the-variants.{Some, None}
 use Rattle.std.specs.declared.result.Result.{Result}
 use Rattle.std.specs.declared.result.Result.the-variants.{Ok, Err}
-use Rattle.std.proofs.shelf.Tests.{ltb-true, leb-true, lt-ltb, and-parts, and-from}
+use Rattle.std.proofs.shelf.Tests.{ltb-true, lt-ltb, and-parts, and-from}
 use Rattle.common.specs.Score.{isScore, Score}
-use Rattle.charts.specs.Answers.{within, started, stepped, taken, looked}
+use Rattle.charts.specs.Answers.{sizeOf, started, stepped, taken, looked}
 use Rattle.charts.specs.Scores.{checked}
+use Rattle.charts.specs.declared.chart.Size.{Size}
 use Rattle.charts.specs.declared.fault.ChartFault.{ChartFault}
 use Rattle.charts.specs.declared.fault.ChartFault.the-variants.{OutOfRange}
 
--- leaves that are answered are at most 16
-pub within-is : (leaves k : ℕ) → within leaves ≡ Some k → (k ≡ leaves) × (k ≤ 16)
-within-is leaves k e = go (leb leaves 16) refl e
-  where
-    go : (t : Bool) → leb leaves 16 ≡ t → cond t (Some leaves) None ≡ Some k → (k ≡ leaves) × (k ≤ 16)
-    go true t e = let few = leb-true leaves 16 t in let is : leaves ≡ k = cc in (sym is, omega arith)
-    go false t e = let z : _≡_ {A = ℕ} 0 1 = cc in absurd (omega arith)
+-- a size that is answered
+pub size-is : (size : Option ℕ) (leaves : ℕ) (z : Size) → sizeOf size leaves ≡ Some z → (size ≡ Some (z .states)) × (z .leaves ≡ leaves)
+size-is None leaves z e = let n : _≡_ {A = ℕ} 0 1 = cc in absurd (omega arith)
+size-is (Some n) leaves z e =
+    let same : _≡_ {A = Size} (record { states = n; leaves = leaves }) z = cc in
+    (ap (λ y. Some (y .states)) same, sym (ap (λ y. y .leaves) same))
+
+-- there is one where there is a size
+pub size-there : (size : Option ℕ) (leaves : ℕ) → isSome (sizeOf size leaves) ≡ isSome size
+size-there None leaves = refl
+size-there (Some n) leaves = refl
 
 -- a start that is answered is the start
 pub started-is : (size : Option ℕ) (start s : ℕ) → started size start ≡ Ok s → s ≡ start

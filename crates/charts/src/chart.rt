@@ -4,11 +4,18 @@ ghost use lib.IntN.{ℤ};
 ghost use mathlib.Core.List.{List};
 ghost use mathlib.Core.Path.{_≡_};
 ghost use Rattle.std.specs.declared.option.Option.{Option};
-ghost use Rattle.charts.specs.Answers.{within, started, stepped, looked};
+ghost use Rattle.charts.specs.Answers.{sizeOf, started, stepped, looked};
 ghost use Rattle.charts.specs.Model.{Lawful};
 ghost use Rattle.charts.specs.Scores.{listed};
 use crate::fault::ChartFault;
 use crate::scores::Scores;
+
+// How many states a chart has, and how many leaves.
+#[derive(Clone, Copy)]
+pub struct Size {
+    pub states: u32,
+    pub leaves: u32,
+}
 
 pub trait Chart {
     // the number of states, which are numbered from 0; absent above 65,536, and where the leaves pass 16
@@ -30,12 +37,8 @@ pub trait Chart {
 
     law lawful: { (c : Self) → Lawful (record { size = size c; start = start c; leaves = leaves c; next = next c; word = word c; look = look c }) };
 
-    fn size(&self) -> Option<u32>
-        ensures { λ r. ⌜ r ≡ size (now (self .entry)) ⌝ };
-
-    // The number of leaves, absent above 16.
-    fn leaves(&self) -> Option<u32>
-        ensures { λ r. ⌜ r ≡ within (leaves (now (self .entry))) ⌝ };
+    fn size(&self) -> Option<Size>
+        ensures { λ r. ⌜ r ≡ sizeOf (size (now (self .entry))) (leaves (now (self .entry))) ⌝ };
 
     // The start state, or refusal 5.
     fn start(&self) -> Result<u32, ChartFault>

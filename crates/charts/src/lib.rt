@@ -5,6 +5,7 @@ mod scores;
 mod word;
 
 pub use chart::Chart;
+pub use chart::Size;
 pub use fault::ChartFault;
 pub use fault::ChartFaultDebug;
 pub use fault::ChartFaultPartialEq;

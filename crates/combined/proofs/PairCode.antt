@@ -10,13 +10,13 @@ use Rattle.std.specs.declared.option.Option.{Option}
 use Rattle.std.specs.declared.option.Option.the-variants.{Some}
 use Rattle.std.specs.declared.result.Result.the-variants.{Ok, Err}
 use Rattle.common.specs.Score.{Score}
-use Rattle.charts.specs.Answers.{within, started, stepped, looked}
+use Rattle.charts.specs.Answers.{started, stepped, looked}
 use Rattle.charts.specs.Model.{Model, Lawful}
 use Rattle.charts.specs.declared.fault.ChartFault.{ChartFault}
 use Rattle.charts.proofs.Looking.{passed, all-scores}
-use Rattle.charts.proofs.Stepping.{within-is, started-is, stepped-is, stepped-ok, looked-is}
+use Rattle.charts.proofs.Stepping.{started-is, stepped-is, stepped-ok, looked-is}
 use Rattle.combined.specs.Pair.{states, pair}
-use Rattle.combined.proofs.PairLaws.{Parts, parts, sized-first, sized-second, side, first-of, word-fits}
+use Rattle.combined.proofs.PairLaws.{Parts, parts, sized-first, sized-second, side, first-of, second-of, word-fits}
 
 some-same : {o : Option ℕ} {m n : ℕ} → o ≡ Some m → o ≡ Some n → m ≡ n
 some-same e f = cc
@@ -49,6 +49,15 @@ module _ (a b : Model) (la : Lawful a) (lb : Lawful b) (n : ℕ) (e : pair a b .
       let z : _≡_ {A = ℕ} 0 1 = cc in
       omega arith
 
+  -- and so does the second
+  pub second-takes : (s : ℕ) (x : ℤ) (fault : ChartFault) → s < n → Score x → stepped (b .size) (b .next) (b .word) (s % q) x ≡ Err fault → ⊥
+  second-takes s x fault h k refused =
+      let known = parts a b n e in
+      let below = subst (λ m. s % m < known .q) (ap (λ o. valueOr o 0) second-size) (second-of a b la lb n known s h) in
+      let ok = stepped-ok (b .size) (b .next) (b .word) (s % q) x (known .q) (known .second) below k in
+      let z : _≡_ {A = ℕ} 0 1 = cc in
+      omega arith
+
   -- the next states fit
   pub steps-fit : (s : ℕ) (x : ℤ) (first low second high : ℕ) → stepped (a .size) (a .next) (a .word) (s / q) x ≡ Ok (first, low) → stepped (b .size) (b .next) (b .word) (s % q) x ≡ Ok (second, high) → first * q + second < 2 ^ 32
   steps-fit s x first low second high f t =
@@ -66,14 +75,14 @@ pub record Joins (leaves low high : ℕ) : Type 0 where
   pub narrow : leaves ≤ 16
   pub fits : low + 2 ^ leaves * high < 65536
 
-module _ (a b : Model) (la : Lawful a) (lb : Lawful b) (n : ℕ) (e : pair a b .size ≡ Some n) (leaves : ℕ) (first-leaves : within (a .leaves) ≡ Some leaves) where
+module _ (a b : Model) (la : Lawful a) (lb : Lawful b) (n : ℕ) (e : pair a b .size ≡ Some n) (leaves : ℕ) (first-leaves : leaves ≡ a .leaves) where
   words-join : (low high : ℕ) → low < 2 ^ a .leaves → high < 2 ^ b .leaves → Joins leaves low high
   words-join low high f s =
       let known = parts a b n e in
-      let is = within-is (a .leaves) leaves first-leaves in
+      let few = known .narrow in
       let most : 2 ^ (a .leaves + b .leaves) ≤ 2 ^ 16 = pow-mono (known .narrow) in
       let fit = word-fits a b low high f s in
-      record { narrow = is .1; fits = subst (λ k. low + 2 ^ k * high < 65536) (sym (is .0)) (omega arith) }
+      record { narrow = omega arith; fits = subst (λ k. low + 2 ^ k * high < 65536) (sym first-leaves) (omega arith) }
 
   pub steps-join : (s t : ℕ) (x : ℤ) (first low second high : ℕ) → stepped (a .size) (a .next) (a .word) s x ≡ Ok (first, low) → stepped (b .size) (b .next) (b .word) t x ≡ Ok (second, high) → Joins leaves low high
   steps-join s t x first low second high f g =

@@ -84,7 +84,7 @@ module _ (a b : Model) (la : Lawful a) (lb : Lawful b) (n : ℕ) (d : Parts a b 
       let positive = sized-second .start-below in
       subst (λ m. s / m < d .p) (sym states-is) (div-below s (d .q) (d .p) (omega arith) (omega arith))
 
-  second-of : (s : ℕ) → s < n → s % states b < d .q
+  pub second-of : (s : ℕ) → s < n → s % states b < d .q
   second-of s h =
       let positive = sized-second .start-below in
       subst (λ m. s % m < d .q) (sym states-is) (mod-below s (d .q) (omega arith))

@@ -6,6 +6,7 @@ ghost use Rattle.combined.specs.Pair.{pair};
 use charts::Chart;
 use charts::ChartFault;
 use charts::Scores;
+use charts::Size;
 use common::is_score;
 
 #[derive(Drop)]
@@ -27,63 +28,59 @@ pub impl<A: Chart, B: Chart> Chart for Pair<A, B> as PairChart {
 
     ghost look = { λ p. pair (of A·Chart (p .first)) (of B·Chart (p .second)) .look };
 
-    fn size(&self) -> Option<u32> {
-        let (Some(p), Some(q), Some(_)) = (self.first.size(), self.second.size(), self.leaves())
-        else {
+    fn size(&self) -> Option<Size> {
+        let (Some(first), Some(second)) = (self.first.size(), self.second.size()) else {
             return None;
         };
-        let size = p as u64 * q as u64;
-        if size <= 65536 {
-            Some(size as u32)
+        let states = first.states as u64 * second.states as u64;
+        let leaves = first.leaves as u64 + second.leaves as u64;
+        if states <= 65536 && leaves <= 16 {
+            Some(Size {
+                states: states as u32,
+                leaves: leaves as u32,
+            })
         } else {
             None
         }
     }
 
-    fn leaves(&self) -> Option<u32> {
-        match (self.first.leaves(), self.second.leaves()) {
-            (Some(k), Some(l)) if k + l <= 16 => Some(k + l),
-            _ => None,
-        }
-    }
-
     fn start(&self) -> Result<u32, ChartFault> {
-        let (Some(_), Some(q)) = (self.size(), self.second.size()) else {
+        let (Some(_), Some(Size { states, .. })) = (self.size(), self.second.size()) else {
             return Err(ChartFault::NoSize);
         };
-        let first = self.first.start()?;
-        let second = self.second.start()?;
-        Ok(first * q + second)
+        let first_start = self.first.start()?;
+        let second_start = self.second.start()?;
+        Ok(first_start * states + second_start)
     }
 
     fn step(&self, state: u32, score: i16) -> Result<(u32, u16), ChartFault> {
-        let (Some(size), Some(q), Some(leaves)) = (
+        let (Some(size), Some(Size { leaves, .. }), Some(Size { states, .. })) = (
             self.size(),
+            self.first.size(),
             self.second.size(),
-            self.first.leaves(),
         ) else {
             return Err(ChartFault::NoSize);
         };
-        if state >= size || !is_score(score as i32) {
+        if state >= size.states || !is_score(score as i32) {
             return Err(ChartFault::OutOfRange);
         }
-        let (first, low) = self.first.step(state / q, score)?;
-        let (second, high) = self.second.step(state % q, score)?;
-        let word = join(low, high, leaves);
+        let (first_next, first_word) = self.first.step(state / states, score)?;
+        let (second_next, second_word) = self.second.step(state % states, score)?;
+        let word = join(first_word, second_word, leaves);
         if word == 0 {
-            Ok((first * q + second, word))
+            Ok((first_next * states + second_next, word))
         } else {
             Ok((self.start()?, word))
         }
     }
 
     fn look(&self, scores: Scores<'_>) -> Result<u16, ChartFault> {
-        let (Some(_), Some(leaves)) = (self.size(), self.first.leaves()) else {
+        let (Some(_), Some(Size { leaves, .. })) = (self.size(), self.first.size()) else {
             return Err(ChartFault::NoSize);
         };
-        let low = self.first.look(scores)?;
-        let high = self.second.look(scores)?;
-        Ok(join(low, high, leaves))
+        let first_word = self.first.look(scores)?;
+        let second_word = self.second.look(scores)?;
+        Ok(join(first_word, second_word, leaves))
     }
 }
 

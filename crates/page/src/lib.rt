@@ -16,6 +16,7 @@ use charts::Chart;
 use charts::ChartFault;
 use charts::Scores;
 use charts::SettingFault;
+use charts::Size;
 use common::is_score;
 
 #[derive(Clone, Copy)]
@@ -100,12 +101,11 @@ pub impl Chart for Page as PageChart {
 
     ghost look = { λ p. page (p .h) (p .k) (p .s0) .look };
 
-    fn size(&self) -> Option<u32> {
-        Some(self.h as u32)
-    }
-
-    fn leaves(&self) -> Option<u32> {
-        Some(1)
+    fn size(&self) -> Option<Size> {
+        Some(Size {
+            states: self.h as u32,
+            leaves: 1,
+        })
     }
 
     fn start(&self) -> Result<u32, ChartFault> {

@@ -9,6 +9,7 @@ use charts::Chart;
 use charts::ChartFault;
 use charts::Scores;
 use charts::SettingFault;
+use charts::Size;
 use common::is_score;
 
 // It remembers nothing.
@@ -47,12 +48,11 @@ pub impl Chart for Shewhart as ShewhartChart {
 
     ghost look = { λ s. shewhart (s .c) .look };
 
-    fn size(&self) -> Option<u32> {
-        Some(STATES)
-    }
-
-    fn leaves(&self) -> Option<u32> {
-        Some(1)
+    fn size(&self) -> Option<Size> {
+        Some(Size {
+            states: STATES,
+            leaves: 1,
+        })
     }
 
     fn start(&self) -> Result<u32, ChartFault> {
