@@ -1,15 +1,19 @@
 -- What the code of a pair needs: its numbers fit, and its parts never decline a step that the pair takes.
 use mathlib.Core.Path.{_≡_, refl, sym, ap, _∙_, subst}
+use mathlib.Core.Bool.{Bool, true}
 use mathlib.Core.List.{List}
 use Prim.Native.Nat.{ℕ, _+_, _*_, _/_, _%_, _^_, _<_, _≤_}
 use native.Mathlib.Omega.{arith}
 use lib.IntN.{ℤ}
 use lib.Pow.{pow-mono}
+use mir.Syntax.{w16, w32}
+use mir.Val.{SFits, toZ, ofZ}
+use Rattle.std.proofs.shelf.Signed.{ints, toZ-ofZ}
 use Rattle.std.specs.Options.{valueOr}
 use Rattle.std.specs.declared.option.Option.{Option}
 use Rattle.std.specs.declared.option.Option.the-variants.{Some}
 use Rattle.std.specs.declared.result.Result.the-variants.{Ok, Err}
-use Rattle.common.specs.Score.{Score}
+use Rattle.common.specs.Score.{isScore, Score}
 use Rattle.charts.specs.Answers.{started, stepped, looked}
 use Rattle.charts.specs.Model.{Model, Lawful}
 use Rattle.charts.specs.declared.fault.ChartFault.{ChartFault}
@@ -20,6 +24,13 @@ use Rattle.combined.proofs.PairLaws.{Parts, parts, sized-first, sized-second, 
 
 some-same : {o : Option ℕ} {m n : ℕ} → o ≡ Some m → o ≡ Some n → m ≡ n
 some-same e f = cc
+
+-- a number of 16 bits that passes the test, widened, is a score
+pub score-passes : (x : ℤ) → SFits w16 x → (test : Bool) → test ≡ isScore (toZ w32 (ofZ w32 (toZ w16 (ofZ w16 x)))) → test ≡ true → Score (toZ w16 (ofZ w16 x))
+score-passes x fits test is held =
+    let passed = toZ-ofZ w16 x fits in
+    let wide : toZ w32 (ofZ w32 (toZ w16 (ofZ w16 x))) ≡ toZ w16 (ofZ w16 x) = omega (arith, ints) in
+    sym (ap isScore wide) ∙ sym is ∙ held
 
 module _ (a b : Model) (la : Lawful a) (lb : Lawful b) (n : ℕ) (e : pair a b .size ≡ Some n) (q : ℕ) (second-size : b .size ≡ Some q) where
   -- the state of two states

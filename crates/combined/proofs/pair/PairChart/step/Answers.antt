@@ -1,21 +1,15 @@
-use mathlib.Core.Path.{_≡_, sym, ap, _∙_}
+use mathlib.Core.Path.{sym, _∙_}
 use native.Mathlib.Omega.{arith}
 use Prim.Native.Nat.{_+_, _*_, _^_, _<_}
-use mir.Val.{toZ, ofZ}
-use mir.Syntax.{w16, w32}
-use Rattle.std.proofs.shelf.Signed.{ints, toZ-ofZ}
-use Rattle.common.specs.Score.{isScore, Score}
 use Rattle.charts.proofs.Stepping.{size-is}
-use Rattle.combined.proofs.PairCode.{first-takes, second-takes, steps-fit, steps-join}
+use Rattle.combined.proofs.PairCode.{score-passes, first-takes, second-takes, steps-fit, steps-join}
 use Rattle.combined.proofs.pair.PairChart.step.Given.{Over}
 use Rattle.combined.proofs.pair.PairChart.step.Needs as need
 
 pub returns-in-Break-first-next : need.returns-in-Break-first-next
 returns-in-Break-first-next g c =
     let self = c .args .self .now in
-    let passed = toZ-ofZ w16 (c .args .score) (c .fits .score) in
-    let wide : toZ w32 (ofZ w32 (toZ w16 (ofZ w16 (c .args .score)))) ≡ toZ w16 (ofZ w16 (c .args .score)) = omega (arith, ints) in
-    let score : Score (toZ w16 (ofZ w16 (c .args .score))) = sym (ap isScore wide) ∙ sym (c .is-score .ensures) ∙ c .if-not-is-score .left in
+    let score = score-passes (c .args .score) (c .fits .score) _ (c .is-score .ensures) (c .if-not-is-score .left) in
     let whole = size-is _ _ _ (sym (c .size .ensures) ∙ c .in-Some-Some-Some .is-0) in
     let second = size-is _ _ _ (sym (c .size-3 .ensures) ∙ c .in-Some-Some-Some .is-2) in
     absurd (first-takes _ _ (g .A·Chart·met .lawful (self .first)) (g .B·Chart·met .lawful (self .second)) _ (whole .0) _ (second .0)
@@ -24,9 +18,7 @@ returns-in-Break-first-next g c =
 pub returns-in-Break-second-next : need.returns-in-Break-second-next
 returns-in-Break-second-next g c =
     let self = c .args .self .now in
-    let passed = toZ-ofZ w16 (c .args .score) (c .fits .score) in
-    let wide : toZ w32 (ofZ w32 (toZ w16 (ofZ w16 (c .args .score)))) ≡ toZ w16 (ofZ w16 (c .args .score)) = omega (arith, ints) in
-    let score : Score (toZ w16 (ofZ w16 (c .args .score))) = sym (ap isScore wide) ∙ sym (c .is-score .ensures) ∙ c .if-not-is-score .left in
+    let score = score-passes (c .args .score) (c .fits .score) _ (c .is-score .ensures) (c .if-not-is-score .left) in
     let whole = size-is _ _ _ (sym (c .size .ensures) ∙ c .in-Some-Some-Some .is-0) in
     let second = size-is _ _ _ (sym (c .size-3 .ensures) ∙ c .in-Some-Some-Some .is-2) in
     absurd (second-takes _ _ (g .A·Chart·met .lawful (self .first)) (g .B·Chart·met .lawful (self .second)) _ (whole .0) _ (second .0)
