@@ -13,7 +13,7 @@ fn main(rt: LibcRuntime) -> Result<(), AnyError> {
     match run(&rt) {
         Ok(()) => Ok(()),
         Err(error) => {
-            eprintln!(rt, "lookback: {error}")?;
+            eprintln!(rt, "lookback: {error} (lookback --help says more)")?;
             Err(error)
         }
     }

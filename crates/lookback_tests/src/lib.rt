@@ -137,7 +137,7 @@ mod tests {
                 Case {
                     arguments: GOOD,
                     input: b"102\n100\n1101\n",
-                    answer: "!refusal 22 at line 3: a count scores within 1000 of the centre (refusal 14)",
+                    answer: "!refusal 22 at line 3: a count has to lie within 1000 of the centre",
                 },
             ],
         )
