@@ -1,5 +1,5 @@
 -- What the check of a list of scores tells.
-use mathlib.Core.Path.{_≡_, refl, sym, ap, _∙_}
+use mathlib.Core.Path.{_≡_, refl, ap, _∙_}
 use mathlib.Core.Bool.{Bool, true, false, cond}
 use mathlib.Core.List.{List, [], _∷_, _++_}
 use Prim.Native.Nat.{ℕ, _≤_}
@@ -12,7 +12,6 @@ use Rattle.std.specs.declared.result.Result.the-variants.{Ok, Err}
 use Rattle.std.proofs.shelf.Tests.{leb-true, le-leb, and-parts, and-from}
 use Rattle.std.specs.shelf.Lists.{All}
 use Rattle.common.specs.Score.{isScore, Score}
-use Rattle.charts.specs.Answers.{taken}
 use Rattle.charts.specs.Scores.{areScores, checked}
 use Rattle.charts.specs.declared.fault.ChartFault.{ChartFault}
 use Rattle.charts.specs.declared.fault.ChartFault.the-variants.{OutOfRange, TooLong}
@@ -29,10 +28,6 @@ passed xs e = go (leb (length xs) 4096) (areScores xs) refl refl e
     go true true s a e = record { few = leb-true (length xs) 4096 s; scores = a }
     go true false s a e = let z : _≡_ {A = ℕ} 0 1 = cc in absurd (omega arith)
     go false all s a e = let z : _≡_ {A = ℕ} 0 1 = cc in absurd (omega arith)
-
--- the word of such a list is answered
-pub taken-is : (word : ℕ) (xs : List ℤ) → checked xs ≡ Ok tt → taken (checked xs) word ≡ Ok word
-taken-is word xs e = ap (λ t. taken t word) e
 
 -- both parts of a list of scores are lists of scores
 pub are-scores-parts : (xs ys : List ℤ) → areScores (xs ++ ys) ≡ true → (areScores xs ≡ true) × (areScores ys ≡ true)

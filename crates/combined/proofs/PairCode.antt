@@ -1,5 +1,5 @@
 -- What the code of a pair needs: its numbers fit, and its parts never decline a step that the pair takes.
-use mathlib.Core.Path.{_≡_, refl, sym, ap, _∙_, subst}
+use mathlib.Core.Path.{_≡_, sym, ap, _∙_, subst}
 use mathlib.Core.Bool.{Bool, true}
 use mathlib.Core.List.{List}
 use Prim.Native.Nat.{ℕ, _+_, _*_, _/_, _%_, _^_, _<_, _≤_}
@@ -20,7 +20,7 @@ use Rattle.charts.specs.declared.fault.ChartFault.{ChartFault}
 use Rattle.charts.proofs.Looking.{passed, all-scores}
 use Rattle.charts.proofs.Stepping.{started-is, stepped-is, stepped-ok, looked-is}
 use Rattle.combined.specs.Pair.{states, pair}
-use Rattle.combined.proofs.PairLaws.{Parts, parts, sized-first, sized-second, side, first-of, second-of, word-fits}
+use Rattle.combined.proofs.PairLaws.{parts, sized-first, sized-second, side, first-of, second-of, word-fits}
 
 some-same : {o : Option ℕ} {m n : ℕ} → o ≡ Some m → o ≡ Some n → m ≡ n
 some-same e f = cc

@@ -6,7 +6,6 @@
 --   wordAt      the word at a state s and a score: the first is at s / states of the second, the second at the remainder
 --   pair        both charts; where either alarms, both go to their starts
 use mathlib.Core.Bool.{cond, _&&_}
-use mathlib.Core.List.{List}
 use Prim.Native.Nat.{ℕ, _+_, _*_, _/_, _%_, _^_}
 use lib.Dec.{leb, eqb}
 use lib.IntN.{ℤ}

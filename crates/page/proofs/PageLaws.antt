@@ -8,8 +8,7 @@ use native.Mathlib.Omega.{arith}
 use lib.IntN.{ℤ, pos, negsuc, _+ℤ_, _-ℤ_}
 use lib.Signed.{leZ}
 use Rattle.std.proofs.shelf.Signed.{ints}
-use Rattle.std.specs.declared.option.Option.the-variants.{Some}
-use Rattle.charts.specs.Model.{Lawful, Sized, Quiet, run}
+use Rattle.charts.specs.Model.{Lawful, run}
 use Rattle.charts.specs.Words.{bit}
 use Rattle.page.specs.Page.{excess, masked, raised, floored, page}
 use Rattle.charts.proofs.WordLaws.{bit-below, bit-none}

@@ -1,13 +1,9 @@
 -- The laws of the Shewhart limit.
 use mathlib.Core.Path.{_≡_, refl, sym, ap}
-use mathlib.Core.Bool.{Bool, true, false, cond}
-use mathlib.Core.List.{List, [], _∷_, _++_}
-use Prim.Native.Nat.{ℕ, _<_, _≤_}
 use native.Mathlib.Omega.{arith}
 use lib.IntN.{ℤ}
 use lib.Signed.{ltZ}
-use Rattle.charts.specs.Model.{Lawful, Sized}
-use Rattle.std.specs.declared.option.Option.the-variants.{Some}
+use Rattle.charts.specs.Model.{Lawful}
 use Rattle.charts.specs.Words.{bit}
 use Rattle.charts.proofs.Lists.{latest-is}
 use Rattle.shewhart.specs.Shewhart.{above, latestAbove, shewhart}

@@ -1,9 +1,7 @@
 use mathlib.Core.Path.{_≡_, sym, subst, _∙_, ap}
-use mathlib.Core.Bool.{true, false}
-use mathlib.Core.List.{[], _∷_, _++_}
-use lib.IntN.{pos, negsuc, _+ℤ_, _-ℤ_}
+use lib.IntN.{pos, _+ℤ_, _-ℤ_}
 use lib.ListN.{length}
-use lib.Signed.{leZ, _≤ℤ_}
+use lib.Signed.{leZ}
 use mir.Syntax.{w16, w32}
 use mir.Val.{SFits, toZ, ofZ}
 use native.Mathlib.Omega.{arith}
@@ -13,7 +11,7 @@ use Rattle.std.proofs.shelf.Signed.{ints, toZ-ofZ}
 use Rattle.common.specs.Score.{isScore}
 use Rattle.charts.specs.Scores.{listed}
 use Rattle.charts.proofs.Looking.{passed}
-use Rattle.page.proofs.MaskLaws.{Seen, seen-none, seen-more, seen-alarm, seen-all, seen-score, seen-within}
+use Rattle.page.proofs.MaskLaws.{Seen, seen-more, seen-alarm, seen-all, seen-score, seen-within}
 use Rattle.page.proofs.Page.mask.Needs as need
 
 pub raise-sum-requires : need.raise-sum-requires
