@@ -1,0 +1,2 @@
+pub mod PairCode
+pub mod PairLaws

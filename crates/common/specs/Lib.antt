@@ -1,0 +1,3 @@
+pub mod Made
+pub mod Refusals
+pub mod Score
