@@ -29,16 +29,16 @@ pub fn request_of(heap: Global, words: &[String]) -> Result<Request, AnyError> {
 fn count_of(heap: Global, words: &mut Words<'_>) -> Result<Count, AnyError> {
     words.keyword(heap, "count")?;
     Ok(Count {
-        centre: words.unsigned(heap, "a centre from 0 to 65535")?,
+        centre: words.number::<u16>(heap, "a centre from 0 to 65535")?,
     })
 }
 
 fn page_of(heap: Global, words: &mut Words<'_>) -> Result<Page, AnyError> {
     words.keyword(heap, "page")?;
     let place = words.place();
-    let h = words.unsigned(heap, "h of page, from 1 to 4096")?;
-    let k = words.signed(heap, "k of page, from -1000 to 1000")?;
-    let s0 = words.unsigned(heap, "s0 of page, from 0 to h - 1")?;
+    let h = words.number::<u16>(heap, "h of page, from 1 to 4096")?;
+    let k = words.number::<i16>(heap, "k of page, from -1000 to 1000")?;
+    let s0 = words.number::<u16>(heap, "s0 of page, from 0 to h - 1")?;
     match Page::new(h, k, s0) {
         Ok(page) => Ok(page),
         Err(fault) => {
@@ -51,7 +51,7 @@ fn page_of(heap: Global, words: &mut Words<'_>) -> Result<Page, AnyError> {
 fn shewhart_of(heap: Global, words: &mut Words<'_>) -> Result<Shewhart, AnyError> {
     words.keyword(heap, "shewhart")?;
     let place = words.place();
-    let c = words.signed(heap, "c of shewhart, from -1000 to 1000")?;
+    let c = words.number::<i16>(heap, "c of shewhart, from -1000 to 1000")?;
     match Shewhart::new(c) {
         Ok(shewhart) => Ok(shewhart),
         Err(fault) => Err(

@@ -2,6 +2,7 @@
 use complaints::unfit;
 use std::alloc::Global;
 use std::error::AnyError;
+use std::str::FromStr;
 
 #[derive(Drop)]
 pub struct Words<'a> {
@@ -39,19 +40,14 @@ impl<'a> Words<'a> {
         }
     }
 
-    pub fn unsigned(&mut self, heap: Global, what: &str) -> Result<u16, AnyError> {
+    // The next word as a number, which is to be `what`.
+    pub fn number<N: FromStr>(&mut self, heap: Global, what: &str) -> Result<N, AnyError>
+    where
+        N::Err: Drop,
+    {
         let place = self.place.saturating_add(1);
         let word = self.next_word();
-        match word.parse::<u16>() {
-            Ok(n) => Ok(n),
-            Err(_) => Err(unfit(heap, "argument", place, what, word)?),
-        }
-    }
-
-    pub fn signed(&mut self, heap: Global, what: &str) -> Result<i16, AnyError> {
-        let place = self.place.saturating_add(1);
-        let word = self.next_word();
-        match word.parse::<i16>() {
+        match word.parse::<N>() {
             Ok(n) => Ok(n),
             Err(_) => Err(unfit(heap, "argument", place, what, word)?),
         }

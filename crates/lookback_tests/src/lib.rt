@@ -56,6 +56,12 @@ mod tests {
                     input: b"106\n102\n",
                     answer: "morning 1: count 106, score 6\nmorning 2: count 102, score 2\nword 1\npage alarms on the last morning\nshewhart does not alarm on the last morning\n",
                 },
+                // the headstart belongs to the whole list: with the last score alone it would reach 10
+                Case {
+                    arguments: "count 100 page 10 1 4 shewhart 6",
+                    input: b"90\n107\n",
+                    answer: "morning 1: count 90, score -10\nmorning 2: count 107, score 7\nword 2\npage does not alarm on the last morning\nshewhart alarms on the last morning\n",
+                },
                 // blanks and carriage returns are passed over, and a negative score is printed with its sign
                 Case {
                     arguments: "count 100 page 10 1 4 shewhart 6",
