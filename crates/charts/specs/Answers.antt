@@ -1,5 +1,6 @@
 -- What the calls of a chart answer, from its meaning.
---   size_of    the size, with the start and the leaves beside it
+--   size_of    the size, with the leaves beside it
+--   started   the start state, or refusal 5
 --   stepped   next state and word together; 5 where the size is absent, then 6 for a state not below it or no score
 --   taken     the word, where the check of the list passes; else its refusal
 --   looked    the look-back word of a list; 5 where the size is absent, then 15 or 6 where the list is refused
@@ -10,9 +11,13 @@ use Rattle.charts.specs.declared.fault.ChartFault.{ChartFault}
 use Rattle.charts.specs.declared.fault.ChartFault.TheVariants.{NoSize, OutOfRange}
 use Rattle.charts.specs.Scores.{checked}
 
-abbrev pub size_of : Option ℕ → ℕ → ℕ → Option Size
-size_of None start leaves = None
-size_of (Some n) start leaves = Some (record { states = n; start = start; leaves = leaves })
+abbrev pub size_of : Option ℕ → ℕ → Option Size
+size_of None leaves = None
+size_of (Some n) leaves = Some (record { states = n; leaves = leaves })
+
+abbrev pub started : Option ℕ → ℕ → Result ℕ ChartFault
+started None start = Err NoSize
+started (Some n) start = Ok start
 
 abbrev pub stepped : Option ℕ → (ℕ → ℤ → ℕ) → (ℕ → ℤ → ℕ) → ℕ → ℤ → Result (ℕ × ℕ) ChartFault
 stepped None next word s x = Err NoSize

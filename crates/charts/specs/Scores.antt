@@ -1,22 +1,17 @@
 -- Lists of scores, as a look-back takes them.
---   opposite    a list with every sign turned
 --   listed      the list that a view stands for, the oldest score first
 --   are_scores   whether every number of a list is a score
 --   checked     whether a look-back takes a list: 15 where it has more than 4,096 numbers, then 6 where one is no score
 --   latest      the latest score of a list, if it has one
 --   LastOf      a list split at its end: nothing of an empty list, else the last element and those before it
-use Rattle.std.specs.Prelude.{◌≡◌, Bool, true, cond, ◌&&◌, List, [], ◌∷◌, ◌++◌, length, ℤ, neg_ℤ, Some, None, Ok, Err, Option, Result, nat_le}
+use Rattle.std.specs.Prelude.{◌≡◌, Bool, true, cond, ◌&&◌, List, [], ◌∷◌, ◌++◌, length, ℤ, Some, None, Ok, Err, Option, Result, nat_le}
 use Rattle.common.specs.Score.{is_score}
 use Rattle.charts.specs.declared.fault.ChartFault.{ChartFault}
 use Rattle.charts.specs.declared.fault.ChartFault.TheVariants.{OutOfRange, TooLong}
 use Rattle.charts.specs.declared.scores.Scores.{Scores}
 
-abbrev pub opposite : List ℤ → List ℤ
-opposite [] = []
-opposite (x ∷ xs) = neg_ℤ x ∷ opposite xs
-
 abbrev pub listed : Scores → List ℤ
-listed view = cond view.turned (opposite view.list.now) view.list.now
+listed view = view.list.now
 
 abbrev pub are_scores : List ℤ → Bool
 are_scores [] = true

@@ -1,17 +1,16 @@
 // The trait of control charts. A chart means its ghost members; whatever is built on charts is proved against them alone.
 ghost use Rattle.std.specs.Prelude.{◌≡◌, ℕ, List, ℤ, Option};
-ghost use Rattle.charts.specs.Answers.{size_of, stepped, looked};
+ghost use Rattle.charts.specs.Answers.{size_of, started, stepped, looked};
 ghost use Rattle.charts.specs.Model.{Lawful};
 ghost use Rattle.charts.specs.Scores.{listed};
 
 use crate::fault::ChartFault;
 use crate::scores::Scores;
 
-// How many states a chart has, which of them is the start, and how many leaves it has.
+// How many states a chart has, and how many leaves.
 #[derive(Clone, Copy)]
 pub struct Size {
     pub states: u32,
-    pub start: u32,
     pub leaves: u32,
 }
 
@@ -34,7 +33,11 @@ pub trait Chart {
     ghost look: { Self → List ℤ → ℕ };
 
     fn size(&self) -> Option<Size>
-        ensures { result ≡ size_of (size self.now) (start self.now) (leaves self.now) };
+        ensures { result ≡ size_of (size self.now) (leaves self.now) };
+
+    // The start state, or refusal 5.
+    fn start(&self) -> Result<u32, ChartFault>
+        ensures { result ≡ started (size self.now) (start self.now) };
 
     // The next state and the alarm word, or refusal 5 or 6.
     fn step(&self, state: u32, score: i16) -> Result<(u32, u16), ChartFault>

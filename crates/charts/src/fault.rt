@@ -30,26 +30,22 @@ impl Fault for ChartFault {
     }
 }
 
-// Why a leaf cannot be made, or be set on a sheet.
+// Why a leaf cannot be made.
 #[derive(Clone, Copy, Debug, PartialEq)]
 pub enum SettingFault {
     // a setting out of its range
     OutOfRange,
-    // a ninth leaf
-    NinthLeaf,
 }
 
 impl Fault for SettingFault {
     ghost refusal = { setting_refusal };
 
     fn refusal(&self) -> Refusal {
-        let number = match self {
-            SettingFault::OutOfRange => 4,
-            SettingFault::NinthLeaf => 15,
-        };
-        Refusal {
-            number,
-            carried: Carried::Nothing,
+        match self {
+            SettingFault::OutOfRange => Refusal {
+                number: 4,
+                carried: Carried::Nothing,
+            },
         }
     }
 }

@@ -1,7 +1,6 @@
-// The scores that a look-back reads, the oldest first. A look-back copies none of them and changes none; a view that is
-// turned reads each with the opposite sign.
-ghost use Rattle.std.specs.Prelude.{◌≡◌, length, neg_ℤ, if◌then◌else◌};
-ghost use Rattle.charts.specs.Scores.{opposite, are_scores, listed, checked, LastOf};
+// The scores that a look-back reads, the oldest first. A look-back copies none of them.
+ghost use Rattle.std.specs.Prelude.{◌≡◌};
+ghost use Rattle.charts.specs.Scores.{are_scores, listed, checked, latest, LastOf};
 
 use crate::fault::ChartFault;
 use common::is_score;
@@ -9,34 +8,23 @@ use common::is_score;
 #[derive(Clone, Copy)]
 pub struct Scores<'a> {
     list: &'a [i16],
-    turned: bool,
 }
 
 impl<'a> Scores<'a> {
     pub fn new(list: &'a [i16]) -> Scores<'a>
         ensures { listed result ≡ list.now }
     {
-        Scores {
-            list,
-            turned: false,
-        }
-    }
-
-    // The same scores, each with the opposite sign.
-    pub fn turned(self) -> Scores<'a>
-        ensures { listed result ≡ opposite (listed self.entry) }
-    {
-        flip(self)
+        Scores { list }
     }
 
     // Whether a look-back takes the list: refusal 15 where it is too long, then 6 where a number of it is no score.
     pub fn check(self) -> Result<(), ChartFault>
         ensures { result ≡ checked (listed self.entry) }
     {
-        if len(self) > 4096 {
+        if self.list.len() > 4096 {
             return Err(ChartFault::TooLong);
         }
-        if are_scores(self) {
+        if are_scores(self.list) {
             Ok(())
         } else {
             Err(ChartFault::OutOfRange)
@@ -44,36 +32,23 @@ impl<'a> Scores<'a> {
     }
 
     // The latest score, and the scores before it.
-    pub fn split_last(self) -> Option<(i32, Scores<'a>)>
+    pub fn split_last(self) -> Option<(i16, Scores<'a>)>
         ensures { LastOf listed (listed self.entry) result }
     {
-        split_end(self)
+        match split_end(self.list) {
+            Some((last, before)) => Some((last, Scores { list: before })),
+            None => None,
+        }
+    }
+
+    pub fn latest(self) -> Option<i16>
+        ensures { result ≡ latest (listed self.entry) }
+    {
+        last_of(self.list)
     }
 }
 
-fn flip(view: Scores<'_>) -> Scores<'_>
-    ensures { listed result ≡ opposite (listed view.entry) }
-{
-    Scores {
-        list: view.list,
-        turned: !view.turned,
-    }
-}
-
-fn len(view: Scores<'_>) -> usize
-    ensures { result ≡ length (listed view.entry) }
-{
-    view.list.len()
-}
-
-// A number is a score where its opposite is one, so the view's sign is no matter.
-fn are_scores(view: Scores<'_>) -> bool
-    ensures { result ≡ are_scores (listed view.entry) }
-{
-    all_scores(view.list)
-}
-
-fn all_scores(list: &[i16]) -> bool
+fn are_scores(list: &[i16]) -> bool
     ensures { result ≡ are_scores list.now }
 {
     for x in list {
@@ -84,23 +59,20 @@ fn all_scores(list: &[i16]) -> bool
     true
 }
 
-fn split_end(view: Scores<'_>) -> Option<(i32, Scores<'_>)>
-    ensures { LastOf listed (listed view.entry) result }
+fn split_end(list: &[i16]) -> Option<(i16, &[i16])>
+    ensures { LastOf (λ x. x.now) list.now result }
 {
-    match view.list {
+    match list {
         [] => None,
-        [before @ .., last] => Some((
-            signed(*last, view.turned),
-            Scores {
-                list: before,
-                turned: view.turned,
-            },
-        )),
+        [before @ .., last] => Some((*last, before)),
     }
 }
 
-fn signed(x: i16, turned: bool) -> i32
-    ensures { result ≡ (if turned then neg_ℤ x else x) }
+fn last_of(list: &[i16]) -> Option<i16>
+    ensures { result ≡ latest list.now }
 {
-    if turned { -(x as i32) } else { x as i32 }
+    match split_end(list) {
+        Some((last, _)) => Some(last),
+        None => None,
+    }
 }

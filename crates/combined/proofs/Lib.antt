@@ -1,1 +1,1 @@
-pub mod BesideLaws
+pub mod PairCode

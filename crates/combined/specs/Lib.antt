@@ -1,3 +1,2 @@
-pub mod Beside
 pub mod Pair
 pub mod PairLaws

@@ -7,7 +7,8 @@ use Rattle.std.proofs.lemmas.Nat.{mul-le, mul-add-lt, div-mul-add, mod-mul-add, 
 use Rattle.std.proofs.lemmas.Bool.{leb-true, eq-eqb, ne_eqb, and_parts}
 use Rattle.common.specs.Score.{Score}
 use Rattle.charts.specs.Model.{Model, Lawful, Sized, Quiet, run}
-use Rattle.charts.proofs.Running.{run_push, run_below, run_tracks}
+use Rattle.charts.proofs.Lists.{snoc_ind}
+use Rattle.charts.proofs.Running.{run_push, run_below, quiet_before, quiet_whole, all_before, all_last}
 use Rattle.combined.specs.Pair.{product, states, pair_word, pair_start, word_at, pair}
 
 -- what a pair's size tells
@@ -109,29 +110,35 @@ module _ (a b : Model) (la : Lawful a) (lb : Lawful b) (n : ℕ) (d : Parts a b 
   quiet_second : (xs : List ℤ) → Quiet (pair a b).look xs → Quiet b.look xs
   quiet_second xs quiet front back h = (word_none a _ _ (quiet front back h)).1
 
-  -- both, each run alone
-  abbrev alone : List ℤ → ℕ
-  alone xs = run a.next a.start xs * states b + run b.next b.start xs
+  -- the pair's state, while it is quiet: both run alone
+  abbrev Both : List ℤ → Type 0
+  Both xs = run (pair a b).next (pair_start a b) xs ≡ run a.next a.start xs * states b + run b.next b.start xs
 
-  -- from there the word at the next score is the look-back word
-  word_alone : (xs : List ℤ) (x : ℤ) → All Score xs → Score x → Quiet (pair a b).look xs → word_at a b (alone xs) x ≡ (pair a b).look (xs ++ x ∷ [])
-  word_alone xs x k last quiet =
+  -- so at the next score the word is the look-back word
+  word_at_last : (xs : List ℤ) (x : ℤ) → All Score xs → Score x → Quiet (pair a b).look xs → Both xs → word_at a b (run (pair a b).next (pair_start a b) xs) x ≡ (pair a b).look (xs ++ x ∷ [])
+  word_at_last xs x k last quiet both =
       let r = run a.next a.start xs in
       let t = run b.next b.start xs in
       let below = second_below t (run_below b d.q sized_second b.start sized_second.start_below xs k) in
-      ap₂ (λ u v. pair_word a (a.word u x) (b.word v x)) (div-mul-add r (states b) t below) (mod-mul-add r (states b) t below)
+      ap (λ s. word_at a b s x) both
+      ∙ ap₂ (λ u v. pair_word a (a.word u x) (b.word v x)) (div-mul-add r (states b) t below) (mod-mul-add r (states b) t below)
       ∙ ap₂ (pair_word a) (sized_first.agrees xs x k last (quiet_first xs quiet)) (sized_second.agrees xs x k last (quiet_second xs quiet))
 
-  -- and while the pair is quiet it is there
-  both : (xs : List ℤ) → All Score xs → Quiet (pair a b).look xs → run (pair a b).next (pair_start a b) xs ≡ alone xs
-  both = run_tracks (pair a b) alone refl carried
+  both : (xs : List ℤ) → All Score xs → Quiet (pair a b).look xs → Both xs
+  both = snoc_ind (λ xs. All Score xs → Quiet (pair a b).look xs → Both xs) (λ k quiet. refl) more
     where
-      carried : (xs : List ℤ) (x : ℤ) → All Score xs → Score x → Quiet (pair a b).look xs → (pair a b).look (xs ++ x ∷ []) ≡ 0 → (pair a b).next (alone xs) x ≡ alone (xs ++ x ∷ [])
-      carried xs x k last quiet still =
+      more : (xs : List ℤ) (x : ℤ) → (All Score xs → Quiet (pair a b).look xs → Both xs) → All Score (xs ++ x ∷ []) → Quiet (pair a b).look (xs ++ x ∷ []) → Both (xs ++ x ∷ [])
+      more xs x before k quiet =
+          let kb = all_before xs x k in
+          let qb = quiet_before (pair a b).look xs x quiet in
+          let here = before kb qb in
           let r = run a.next a.start xs in
           let t = run b.next b.start xs in
-          let below = second_below t (run_below b d.q sized_second b.start sized_second.start_below xs k) in
-          goes_on (alone xs) x (word_alone xs x k last quiet ∙ still)
+          let below = second_below t (run_below b d.q sized_second b.start sized_second.start_below xs kb) in
+          let none = word_at_last xs x kb (all_last xs x k) qb here ∙ quiet_whole (pair a b).look xs x quiet in
+          run_push (pair a b).next (pair_start a b) xs x
+          ∙ goes_on (run (pair a b).next (pair_start a b) xs) x none
+          ∙ ap (λ s. a.next (s / states b) x * states b + b.next (s % states b) x) here
           ∙ ap₂ (λ u v. a.next u x * states b + b.next v x) (div-mul-add r (states b) t below) (mod-mul-add r (states b) t below)
           ∙ sym (ap₂ (λ u v. u * states b + v) (run_push a.next a.start xs x) (run_push b.next b.start xs x))
 
@@ -144,7 +151,7 @@ module _ (a b : Model) (la : Lawful a) (lb : Lawful b) (n : ℕ) (d : Parts a b 
     word_below = pair_word_below;
     look_below = pair_look_below;
     restarts = λ s x h k w. pair_restarts s x w;
-    agrees = λ before last k score quiet. ap (λ s. word_at a b s last) (both before k quiet) ∙ word_alone before last k score quiet;
+    agrees = λ before last k score quiet. word_at_last before last k score quiet (both before k quiet);
   }
 
 pub pair_lawful : (a b : Model) → Lawful a → Lawful b → Lawful (pair a b)

@@ -1,6 +1,4 @@
-// Two charts side by side: what both together answer, from what each answers, and the pair of any two charts.
-mod beside;
+// Charts that are made of others: two side by side.
 mod pair;
 
-pub use beside::{look_beside, size_beside, split_state, step_beside};
 pub use pair::Pair;

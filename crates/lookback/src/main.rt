@@ -1,11 +1,11 @@
-// lookback: which leaves of a sheet alarm on the last morning of a column of readings.
+// lookback: whether Page's rule or the Shewhart limit alarms on the last morning of a column of counts, and which of them.
 use anyhow::anyhow;
-use arguments::{ARGUMENTS_HELP, request_of};
-use console::{LOOKBACK_EXAMPLE, LOOKBACK_HELP, report_of};
+use arguments::request_of;
+use console::{LOOKBACK_HELP, report_of};
 use std::env;
 use std::io::Read;
 
-// The most bytes of input: far more than 4,096 lines with a reading each.
+// The most bytes of input: far more than 4,096 lines with a count each.
 const MOST: u64 = 1048576;
 
 fn main(rt: HostRuntime) -> anyhow::Result<()> {
@@ -22,9 +22,7 @@ fn run(rt: &HostRuntime) -> anyhow::Result<()> {
     let heap = rt.alloc();
     let words: Vec<String> = env::args(rt)?.skip(1).collect(heap)?;
     if asks_help(words.as_slice()) {
-        rt.print(LOOKBACK_HELP)?;
-        rt.print(ARGUMENTS_HELP)?;
-        return Ok(rt.print(LOOKBACK_EXAMPLE)?);
+        return Ok(rt.print(LOOKBACK_HELP)?);
     }
     let request = request_of(heap, words.as_slice())?;
     let mut input = Vec::new(heap);
@@ -32,13 +30,7 @@ fn run(rt: &HostRuntime) -> anyhow::Result<()> {
     if input.len() as u64 > MOST {
         return Err(anyhow!("the input is longer than a megabyte"));
     }
-    let text = report_of(
-        heap,
-        &request.source,
-        &request.sheet,
-        request.leaves.as_slice(),
-        input.as_slice(),
-    )?;
+    let text = report_of(heap, &request.source, &request.chart, input.as_slice())?;
     Ok(rt.print(text)?)
 }
 

@@ -34,13 +34,13 @@ impl Page {
     }
 
     // What a score makes of a sum. 4,096 scores change a sum by at most 2,000 each.
-    fn raise(&self, sum: i32, score: i32) -> i32
+    fn raise(&self, sum: i32, score: i16) -> i32
         requires low { negsuc 8191999 ≤ℤ sum }
         requires high { sum ≤ℤ pos 8192000 }
         requires score { is_score score ≡ true }
         ensures { result ≡ sum +ℤ (score -ℤ self.now.k) }
     {
-        sum + (score - self.k as i32)
+        sum + (score as i32 - self.k as i32)
     }
 
     fn alarms(&self, sum: i32) -> bool
@@ -99,14 +99,17 @@ impl Chart for Page {
     fn size(&self) -> Option<Size> {
         Some(Size {
             states: self.h as u32,
-            start: self.s0 as u32,
             leaves: 1,
         })
     }
 
+    fn start(&self) -> Result<u32, ChartFault> {
+        Ok(self.s0 as u32)
+    }
+
     fn step(&self, state: u32, score: i16) -> Result<(u32, u16), ChartFault> {
         if state < self.h as u32 && is_score(score as i32) {
-            Ok(self.settle(self.raise(state as i32, score as i32)))
+            Ok(self.settle(self.raise(state as i32, score)))
         } else {
             Err(ChartFault::OutOfRange)
         }

@@ -2,7 +2,6 @@
 ghost use Rattle.std.specs.Prelude.{◌≡◌, true};
 ghost use Rattle.common.specs.Made.{Made};
 ghost use Rattle.common.specs.Score.{is_score};
-ghost use Rattle.charts.specs.Scores.{listed, latest};
 ghost use Rattle.shewhart.specs.Settings.{shewhart_fault};
 ghost use Rattle.shewhart.specs.Shewhart.{shewhart};
 ghost use Rattle.shewhart.specs.ShewhartLaws.{shewhart_lawful};
@@ -51,9 +50,12 @@ impl Chart for Shewhart {
     fn size(&self) -> Option<Size> {
         Some(Size {
             states: STATES,
-            start: START,
             leaves: 1,
         })
+    }
+
+    fn start(&self) -> Result<u32, ChartFault> {
+        Ok(START)
     }
 
     fn step(&self, state: u32, score: i16) -> Result<(u32, u16), ChartFault> {
@@ -66,18 +68,9 @@ impl Chart for Shewhart {
 
     fn look(&self, scores: Scores<'_>) -> Result<u16, ChartFault> {
         scores.check()?;
-        match last_of(scores) {
-            Some(latest) => Ok((latest > self.c as i32) as u16),
+        match scores.latest() {
+            Some(latest) => Ok((latest > self.c) as u16),
             None => Ok(0),
         }
-    }
-}
-
-fn last_of(scores: Scores<'_>) -> Option<i32>
-    ensures { result ≡ latest (listed scores.entry) }
-{
-    match scores.split_last() {
-        Some((last, _)) => Some(last),
-        None => None,
     }
 }

@@ -1,4 +1,4 @@
-use Rattle.std.proofs.Common.{◌≡◌, length, pos, ◌+ℤ◌, ◌-ℤ◌, sym, ap, ◌∙◌, subst, arith, w32, SFits, to_z, of_z, rules}
+use Rattle.std.proofs.Common.{◌≡◌, length, pos, ◌+ℤ◌, ◌-ℤ◌, sym, ap, ◌∙◌, subst, arith, w16, w32, SFits, to_z, of_z, rules}
 use lib.Signed.{le_z}
 use Rattle.std.proofs.lemmas.List.{length_push}
 use Rattle.std.proofs.lemmas.Int.{ints, to_z-of_z}
@@ -14,8 +14,8 @@ raise-sum-requires c =
     let ok = passed (listed c.args.scores) c.requires in
     let bounds = seen_within self.h self.k _ _ _ ok.scores c.loop-score.invariant self.reference ok.few in
     let score = seen_score self.h self.k _ _ _ ok.scores c.loop-score.invariant _ _ c.in-Some.ensures in
-    let fits : SFits w32 c.in-Some.score = search rules in
-    record { low = bounds.0; high = bounds.1; score = ap is_score (to_z-of_z w32 _ fits) ∙ score }
+    let fits : SFits w16 c.in-Some.score = search rules in
+    record { low = bounds.0; high = bounds.1; score = ap is_score (to_z-of_z w16 _ fits) ∙ score }
 
 pub returns-then-alarms : goal.returns-then-alarms
 returns-then-alarms c =

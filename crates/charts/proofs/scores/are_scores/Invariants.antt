@@ -1,6 +1,6 @@
 use Rattle.std.proofs.Common.{◌≡◌, drop}
 use Rattle.charts.specs.Scores.{are_scores}
-use Rattle.charts.proofs.scores.all_scores.Given as goal
+use Rattle.charts.proofs.scores.are_scores.Given as goal
 
 -- what is left decides
 abbrev pub invariant-loop-x : goal.invariant-loop-x

@@ -1,0 +1,19 @@
+use Rattle.std.proofs.Common.{◌+◌, ◌*◌, ◌^◌, ◌<◌, sym, ◌∙◌, arith}
+use Rattle.charts.proofs.Stepping.{size_is}
+use Rattle.combined.proofs.PairCode.{starts_fit}
+use Rattle.combined.proofs.pair.PairChart.start.Given.{Over}
+use Rattle.combined.proofs.pair.PairChart.start.Goals as goal
+
+fit : (g : Over) (c : goal.In-ok-second-start g) → c.in-ok-first-start.first-start * c.in-Some-Some.field-0-1.states + c.in-ok-second-start.second-start < 2 ^ 32
+fit g c =
+    let self = c.args.self.now in
+    let whole = size_is _ _ _ (sym c.size.ensures ∙ c.in-Some-Some.is-0) in
+    let second = size_is _ _ _ (sym c.size-2.ensures ∙ c.in-Some-Some.is-1) in
+    starts_fit _ _ (g.met.A.Chart.lawful self.first) (g.met.B.Chart.lawful self.second) _ whole.0 _ second.0 _ _
+    (sym c.start.ensures ∙ c.in-ok-first-start.was) (sym c.start-2.ensures ∙ c.in-ok-second-start.was)
+
+pub overflow-mul-result : goal.overflow-mul-result
+overflow-mul-result g c = let h = fit g c in omega arith
+
+pub overflow-add-result : goal.overflow-add-result
+overflow-add-result g c = let h = fit g c in omega arith
