@@ -1,4 +1,6 @@
 // The arguments of programs: what the command line asks for.
+#![tactic(auto)]
+
 mod request;
 mod words;
 

@@ -1,4 +1,6 @@
 // Control charts over scores: the trait that every chart meets, with its laws, and the list that a look-back reads.
+#![tactic(auto)]
+
 mod chart;
 mod fault;
 mod scores;

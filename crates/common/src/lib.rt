@@ -1,4 +1,6 @@
 // What the rooms of the house share: what a score is, and what a refusal says.
+#![tactic(auto)]
+
 mod refusal;
 mod score;
 

@@ -1,4 +1,6 @@
 // Why a program declines, in one line.
+#![tactic(auto)]
+
 use std::alloc::{AllocError, Global};
 
 // What stands at this place, and what is to stand there.
@@ -9,7 +11,7 @@ pub fn unfit(
     what: &str,
     found: &str,
 ) -> Result<anyhow::Error, AllocError> {
-    Ok(format!(in heap; "{at} {place} is to be {what}, and is '{found}'")?.into())
+    Ok(anyhow::Error::msg(format!(in heap; "{at} {place} is to be {what}, and is '{found}'")?))
 }
 
 // The number of a refusal, and the rule that was broken at this place.
@@ -20,5 +22,5 @@ pub fn refused(
     place: usize,
     rule: &str,
 ) -> Result<anyhow::Error, AllocError> {
-    Ok(format!(in heap; "refusal {number} at {at} {place}: {rule}")?.into())
+    Ok(anyhow::Error::msg(format!(in heap; "refusal {number} at {at} {place}: {rule}")?))
 }

@@ -1,4 +1,6 @@
 // What `lookback` reads and prints: a column of counts, and the report of a look-back.
+#![tactic(auto)]
+
 mod counts;
 mod report;
 

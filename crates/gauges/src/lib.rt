@@ -1,4 +1,6 @@
 // Gauges: a reading is scored by where it stands among four limits that rise.
+#![tactic(auto)]
+
 ghost use Rattle.std.specs.Prelude.{◌≡◌, true};
 ghost use Rattle.common.specs.Made.{Made};
 ghost use Rattle.gauges.specs.Gauges.{gauge_score};

@@ -1,4 +1,6 @@
 // Looking back: the alarm word that stored readings, or bare scores, have as a whole.
+#![tactic(auto)]
+
 mod fault;
 mod stored;
 

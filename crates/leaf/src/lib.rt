@@ -1,4 +1,6 @@
 // Leaves: what stands on a sheet. A leaf is one of four rules, plain or turned.
+#![tactic(auto)]
+
 mod leaf;
 mod rule;
 

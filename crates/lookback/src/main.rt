@@ -1,4 +1,6 @@
 // lookback: whether Page's rule or the Shewhart limit alarms on the last morning of a column of counts, and which of them.
+#![tactic(auto)]
+
 use anyhow::anyhow;
 use arguments::request_of;
 use console::{LOOKBACK_HELP, report_of};

@@ -1,4 +1,6 @@
 // What `lookback` prints, and what it complains of, case by case.
+#![tactic(auto)]
+
 #[cfg(test)]
 mod tests {
     use arguments::request_of;

@@ -1,4 +1,6 @@
 // Measure: a reading is scored by its difference from a target, in units, to the nearest whole number.
+#![tactic(auto)]
+
 ghost use Rattle.std.specs.Prelude.{◌≡◌, true};
 ghost use Rattle.common.specs.Made.{Made};
 ghost use Rattle.measure.specs.Measure.{measure_score, nearest_score};

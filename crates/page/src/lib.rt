@@ -1,5 +1,7 @@
 // Page's one-sided cumulative sum (Biometrika 1954), with a headstart as Lucas and Crosier gave it. It alarms when the
 // sum reaches h. Its look-back is Barnard's V-mask, with the headstart added to the sum of the whole list alone.
+#![tactic(auto)]
+
 ghost use Rattle.std.specs.Prelude.{◌≡◌, ◌<◌, ◌≤◌, true, pos, negsuc, ◌+ℤ◌, ◌-ℤ◌, ◌≤ℤ◌, if◌then◌else◌, Ok, int_le};
 ghost use Rattle.common.specs.Made.{Made};
 ghost use Rattle.common.specs.Score.{is_score};

@@ -1,5 +1,7 @@
 // A runs rule, as the Western Electric rules have several: it alarms when at least t of the last m scores are above y.
 // With fewer than m scores all of them are taken.
+#![tactic(auto)]
+
 ghost use Rattle.std.specs.Prelude.{◌≡◌, ◌-◌, ◌%◌, ◌^◌, ◌<◌, ◌≤◌, true, if◌then◌else◌};
 ghost use Rattle.common.specs.Made.{Made};
 ghost use Rattle.common.specs.Score.{is_score};

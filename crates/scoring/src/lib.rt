@@ -1,4 +1,6 @@
 // Sources: what turns a reading into a score, or into a fault that says why not.
+#![tactic(auto)]
+
 mod count;
 mod fault;
 mod source;

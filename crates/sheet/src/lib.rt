@@ -1,4 +1,6 @@
 // Sheets of leaves.
+#![tactic(auto)]
+
 mod row;
 mod sheet;
 

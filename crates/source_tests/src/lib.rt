@@ -1,4 +1,6 @@
 // Worked figures of the measured sources, around each limit and at every kind of float.
+#![tactic(auto)]
+
 #[cfg(test)]
 mod tests {
     use gauges::Gauges;

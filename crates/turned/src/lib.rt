@@ -1,4 +1,6 @@
 // Any chart, turned: it reads every score with the opposite sign, in steps and in look-back.
+#![tactic(auto)]
+
 ghost use Rattle.std.specs.Prelude.{◌≡◌};
 ghost use Rattle.charts.specs.Answers.{looked};
 ghost use Rattle.charts.specs.Of.{of};

@@ -1,4 +1,6 @@
 // A random walk with two limits: the running total of the scores, which alarms at h or above and at -h or below.
+#![tactic(auto)]
+
 ghost use Rattle.std.specs.Prelude.{◌≡◌, ◌-◌, ◌*◌, ◌<◌, ◌≤◌, true, if◌then◌else◌, Ok};
 ghost use Rattle.common.specs.Made.{Made};
 ghost use Rattle.common.specs.Score.{is_score};

@@ -5,8 +5,8 @@ use Rattle.common.specs.Score.{is_score}
 use Rattle.charts.specs.Scores.{are_scores}
 use Rattle.charts.proofs.scores.are_scores.Goals as goal
 
-pub returns-then-not-is-score : goal.returns-then-not-is-score
-returns-then-not-is-score c =
+pub returns-then-not-is_score : goal.returns-then-not-is_score
+returns-then-not-is_score c =
     let xs = c.args.list.now in
     let i = c.loop-x.x-index in
     let more : are_scores (drop i xs) ≡ (is_score (get_or xs i (pos 0)) && are_scores (drop (i + 1) xs)) = at_drop_more are_scores xs i (pos 0) c.loop-x-test.true in
