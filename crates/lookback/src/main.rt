@@ -6,16 +6,17 @@ use arguments::request_of;
 use console::{LOOKBACK_HELP, report_of};
 use std::env;
 use std::io::Read;
+use std::process::ExitCode;
 
 // The most bytes of input: far more than 4,096 lines with a count each.
 const MOST: u64 = 1048576;
 
-fn main(rt: HostRuntime) -> anyhow::Result<()> {
+fn main(rt: HostRuntime) -> anyhow::Result<ExitCode> {
     match run(&rt) {
-        Ok(()) => Ok(()),
+        Ok(()) => Ok(ExitCode::SUCCESS),
         Err(error) => {
             eprintln!(rt; "lookback: {error} (lookback --help says more)")?;
-            Err(error)
+            Ok(ExitCode::FAILURE)
         }
     }
 }

@@ -20,7 +20,7 @@ raise-sum-requires c =
 pub returns-then-alarms : goal.returns-then-alarms
 returns-then-alarms c =
     let self = c.args.self.now in
-    let done = subst (Seen self.h self.k (listed c.args.scores) (listed c.loop-score.earlier)) c.loop-score.sum_is c.loop-score.invariant in
+    let done = subst (Seen self.h self.k (listed c.args.scores) (listed c.loop-score.earlier)) c.loop-score.sum-is c.loop-score.invariant in
     let is : to_z w32 (of_z w32 c.raise-sum.result) ≡ c.loop-score.sum +ℤ (c.in-Some.score -ℤ self.k) = omega (arith, ints) in
     sym (seen_alarm self.h self.k _ _ _ _ _ _ done c.in-Some.ensures is self.s0 (sym c.alarms.ensures ∙ c.if-alarms.true))
 
@@ -30,12 +30,12 @@ loop-score-smaller c = let e = ap length c.in-Some.ensures in let more = length_
 pub loop-score-preserved : goal.loop-score-preserved
 loop-score-preserved c =
     let self = c.args.self.now in
-    let done = subst (Seen self.h self.k (listed c.args.scores) (listed c.loop-score.earlier)) c.loop-score.sum_is c.loop-score.invariant in
+    let done = subst (Seen self.h self.k (listed c.args.scores) (listed c.loop-score.earlier)) c.loop-score.sum-is c.loop-score.invariant in
     let is : to_z w32 (of_z w32 c.raise-sum.result) ≡ c.loop-score.sum +ℤ (c.in-Some.score -ℤ self.k) = omega (arith, ints) in
     seen_more self.h self.k _ _ _ _ _ _ done c.in-Some.ensures is (sym c.alarms.ensures ∙ c.if-alarms.false)
 
-pub overflow-add-self : goal.overflow-add-self
-overflow-add-self c =
+pub overflow_add-self : goal.overflow_add-self
+overflow_add-self c =
     let self = c.args.self.now in
     let ok = passed (listed c.args.scores) c.requires in
     let bounds = seen_within self.h self.k _ _ _ ok.scores c.loop-score.invariant self.reference ok.few in
@@ -47,9 +47,9 @@ pub returns : goal.returns
 returns c =
     let self = c.args.self.now in
     let ok = passed (listed c.args.scores) c.requires in
-    let done = subst (Seen self.h self.k (listed c.args.scores) (listed c.loop-score.earlier)) c.loop-score.sum_is c.loop-score.invariant in
+    let done = subst (Seen self.h self.k (listed c.args.scores) (listed c.loop-score.earlier)) c.loop-score.sum-is c.loop-score.invariant in
     let bounds = seen_within self.h self.k _ _ _ ok.scores done self.reference ok.few in
     let few = self.few in
     let ahead = self.ahead in
     let e : c.alarms-2.result ≡ le_z (pos self.h) (pos self.s0 +ℤ c.loop-score.sum) = c.alarms-2.ensures ∙ ap (le_z (pos self.h)) (omega (arith, ints)) in
-    e ∙ sym (seen_all self.h self.k self.s0 _ _ _ done c.in-default.ensures)
+    e ∙ sym (seen_all self.h self.k self.s0 _ _ _ done c.in_default.ensures)
