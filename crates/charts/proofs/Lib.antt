@@ -1,3 +1,4 @@
+pub mod Backward
 pub mod Lists
 pub mod Looking
 pub mod Running

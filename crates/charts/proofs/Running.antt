@@ -3,6 +3,7 @@ use Rattle.std.proofs.Common.{◌≡◌, ℕ, ◌<◌, List, [], ◌∷◌, ◌+
 use Rattle.std.specs.List.{AllByRecursion as All}
 use Rattle.std.proofs.lemmas.List.{append_assoc, append-nil}
 use Rattle.common.specs.Score.{Score}
+use Rattle.charts.proofs.Lists.{snoc_ind}
 use Rattle.charts.specs.Model.{Model, Sized, Quiet, run}
 
 pub run_push : (next : ℕ → ℤ → ℕ) (s : ℕ) (xs : List ℤ) (x : ℤ) → run next s (xs ++ x ∷ []) ≡ next (run next s xs) x
@@ -30,3 +31,18 @@ all_before (y ∷ ys) x q = (q.0, all_before ys x q.1)
 pub all_last : (xs : List ℤ) (x : ℤ) → All Score (xs ++ x ∷ []) → Score x
 all_last [] x q = q.0
 all_last (y ∷ ys) x q = all_last ys x q.1
+
+-- the state after a quiet list: one that the start has and that every quiet score carries on
+pub run_tracks : (m : Model) (state : List ℤ → ℕ) → state [] ≡ m.start
+    → ((xs : List ℤ) (x : ℤ) → All Score xs → Score x → Quiet m.look xs → m.look (xs ++ x ∷ []) ≡ 0 → m.next (state xs) x ≡ state (xs ++ x ∷ []))
+    → (xs : List ℤ) → All Score xs → Quiet m.look xs → run m.next m.start xs ≡ state xs
+run_tracks m state none more = snoc_ind (λ xs. All Score xs → Quiet m.look xs → run m.next m.start xs ≡ state xs) (λ k quiet. sym none) on
+  where
+    on : (xs : List ℤ) (x : ℤ) → (All Score xs → Quiet m.look xs → run m.next m.start xs ≡ state xs)
+        → All Score (xs ++ x ∷ []) → Quiet m.look (xs ++ x ∷ []) → run m.next m.start (xs ++ x ∷ []) ≡ state (xs ++ x ∷ [])
+    on xs x before k quiet =
+        let scores = all_before xs x k in
+        let earlier = quiet_before m.look xs x quiet in
+        run_push m.next m.start xs x
+        ∙ ap (λ s. m.next s x) (before scores earlier)
+        ∙ more xs x scores (all_last xs x k) earlier (quiet_whole m.look xs x quiet)

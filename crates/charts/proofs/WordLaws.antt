@@ -1,5 +1,5 @@
 -- Words of one leaf, and bits past the end of a word.
-use Rattle.std.proofs.Common.{◌≡◌, ℕ, ◌/◌, ◌%◌, ◌^◌, ◌<◌, ◌≤◌, Bool, true, false, eqb, refl, ap, arith, lit<, pow_mono}
+use Rattle.std.proofs.Common.{◌≡◌, ℕ, ◌/◌, ◌%◌, ◌^◌, ◌<◌, ◌≤◌, Bool, true, false, cond, eqb, refl, ap, arith, lit<, pow_mono}
 use native.Mathlib.Nat.{div-eq_of_lt}
 use Rattle.charts.specs.Words.{bit, alarmed}
 
@@ -11,6 +11,11 @@ bit_below false = lit< tt
 pub bit_none : (b : Bool) → bit b ≡ 0 → b ≡ false
 bit_none true e = absurd (omega arith)
 bit_none false e = refl
+
+-- after an alarm the next state is the start
+pub restarted : (b : Bool) (start next : ℕ) → (bit b ≡ 0 → ⊥) → cond b start next ≡ start
+restarted true start next alarm = refl
+restarted false start next alarm = absurd (alarm refl)
 
 pub none_past : (word leaf : ℕ) → word < 2 ^ 16 → 16 ≤ leaf → alarmed word leaf ≡ false
 none_past word leaf small past =

@@ -99,7 +99,7 @@ impl Runs {
             let Some((score, before)) = earlier.split_last() else {
                 return count;
             };
-            count += self.mark(score);
+            count += self.mark(score as i32);
             earlier = before;
         }
         count
@@ -124,9 +124,12 @@ impl Chart for Runs {
     fn size(&self) -> Option<Size> {
         Some(Size {
             states: self.states(),
-            start: START,
             leaves: 1,
         })
+    }
+
+    fn start(&self) -> Result<u32, ChartFault> {
+        Ok(START)
     }
 
     fn step(&self, state: u32, score: i16) -> Result<(u32, u16), ChartFault> {

@@ -1,8 +1,9 @@
-// Why a source declines a reading.
-ghost use Rattle.scoring.specs.Faults.{source_refusal};
+// Why a source declines a reading, and why one cannot be made.
+ghost use Rattle.scoring.specs.Faults.{source_refusal, source_setting_refusal};
 
 use common::{Carried, Fault, Refusal};
 
+// Why a reading is declined.
 #[derive(Clone, Copy, Debug, PartialEq)]
 pub enum SourceFault {
     NotANumber,
@@ -28,5 +29,32 @@ impl Fault for SourceFault {
             SourceFault::OffCount(difference) => (14, Carried::Difference(*difference)),
         };
         Refusal { number, carried }
+    }
+}
+
+// Why a source cannot be made.
+#[derive(Clone, Copy, Debug, PartialEq)]
+pub enum SourceSettingFault {
+    // a setting that is not finite, or out of its range
+    OutOfRange,
+    // limits that do not strictly rise
+    NotRising,
+    // scores out of order, or out of their range
+    ScoresOutOfOrder,
+}
+
+impl Fault for SourceSettingFault {
+    ghost refusal = { source_setting_refusal };
+
+    fn refusal(&self) -> Refusal {
+        let number = match self {
+            SourceSettingFault::OutOfRange => 1,
+            SourceSettingFault::NotRising => 2,
+            SourceSettingFault::ScoresOutOfOrder => 3,
+        };
+        Refusal {
+            number,
+            carried: Carried::Nothing,
+        }
     }
 }

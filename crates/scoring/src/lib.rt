@@ -3,8 +3,10 @@
 
 mod count;
 mod fault;
+mod range;
 mod source;
 
 pub use count::Count;
-pub use fault::SourceFault;
+pub use fault::{SourceFault, SourceSettingFault};
+pub use range::{admit, is_in_range};
 pub use source::Source;

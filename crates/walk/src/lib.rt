@@ -81,7 +81,7 @@ fn total(scores: Scores<'_>) -> i32
     let mut earlier = scores;
     let mut sum = 0;
     while let Some((score, before)) = earlier.split_last() {
-        sum += score;
+        sum += score as i32;
         earlier = before;
     }
     sum
@@ -105,9 +105,12 @@ impl Chart for Walk {
     fn size(&self) -> Option<Size> {
         Some(Size {
             states: self.states(),
-            start: self.middle(),
             leaves: 1,
         })
+    }
+
+    fn start(&self) -> Result<u32, ChartFault> {
+        Ok(self.middle())
     }
 
     fn step(&self, state: u32, score: i16) -> Result<(u32, u16), ChartFault> {

@@ -7,8 +7,8 @@ use Rattle.measure.proofs.NearestLaws.{off_above, off_below, on_scale, rounded_c
 use Rattle.measure.proofs.nearest_score.Goals as goal
 use Rattle.measure.proofs.nearest_score.Goals.{else-quotient-via-else-quotient, else-quotient-via-then-quotient+else-quotient-2}
 
-pub float-to-int-result : goal.float-to-int-result
-float-to-int-result c =
+pub float_to_int-result : goal.float_to_int-result
+float_to_int-result c =
     let x = c.args.quotient in
     let nonzero : eq (float_round binary64 x) (of_bits binary64 0) ≡ false = cc in
     rw c.round-whole.ensures (rounded_cast x (on_scale x c.if-quotient.true c.if-quotient-2.true) nonzero).0

@@ -7,8 +7,8 @@ use Rattle.charts.proofs.Looking.{passed}
 use Rattle.walk.proofs.TotalLaws.{Seen, seen_more, seen_all, seen_score, seen_within}
 use Rattle.walk.proofs.total.Goals as goal
 
-pub overflow-add-sum : goal.overflow-add-sum
-overflow-add-sum c =
+pub overflow_add-sum : goal.overflow_add-sum
+overflow_add-sum c =
     let ok = passed (listed c.args.scores) c.requires in
     let bounds = seen_within _ _ _ ok.scores c.loop-score.invariant ok.few in
     let score = score_within c.in-Some.score (seen_score _ _ _ ok.scores c.loop-score.invariant _ _ c.in-Some.ensures) in
@@ -19,9 +19,9 @@ loop-score-smaller c = let e = ap length c.in-Some.ensures in let more = length_
 
 pub loop-score-preserved : goal.loop-score-preserved
 loop-score-preserved c =
-    let done = subst (Seen (listed c.args.scores) (listed c.loop-score.earlier)) c.loop-score.sum_is c.loop-score.invariant in
-    let fits = overflow-add-sum c in
+    let done = subst (Seen (listed c.args.scores) (listed c.loop-score.earlier)) c.loop-score.sum-is c.loop-score.invariant in
+    let fits = overflow_add-sum c in
     seen_more _ _ _ _ _ _ done c.in-Some.ensures (omega (arith, ints))
 
 pub returns : goal.returns
-returns c = seen_all _ _ _ c.loop-score.invariant c.in-default.ensures
+returns c = seen_all _ _ _ c.loop-score.invariant c.in_default.ensures

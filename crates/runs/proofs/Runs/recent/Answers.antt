@@ -1,4 +1,4 @@
-use Rattle.std.proofs.Common.{◌≡◌, ap, ◌∙◌, arith, w32, SFits, rules}
+use Rattle.std.proofs.Common.{◌≡◌, ap, ◌∙◌, arith, w16, w32, SFits, to_z, of_z, rules}
 use Rattle.std.proofs.lemmas.Int.{to_z-of_z}
 use Rattle.runs.specs.Runs.{mark}
 use Rattle.runs.specs.Marks.{mark_one}
@@ -6,13 +6,16 @@ use Rattle.runs.proofs.RecentLaws.{seen_more, seen_few, seen_ended, seen_full}
 use Rattle.runs.proofs.Runs.recent.Goals as goal
 
 mark_is : (c : goal.After-mark-count) → c.mark-count.result ≡ mark c.args.self.now.y c.in-Some.score
-mark_is c = let fits : SFits w32 c.in-Some.score = search rules in c.mark-count.ensures ∙ ap (mark c.args.self.now.y) (to_z-of_z w32 _ fits)
+mark_is c =
+    let narrow : SFits w16 c.in-Some.score = search rules in
+    let wide : SFits w32 (to_z w16 (of_z w16 c.in-Some.score)) = search rules in
+    c.mark-count.ensures ∙ ap (mark c.args.self.now.y) (to_z-of_z w32 _ wide ∙ to_z-of_z w16 _ narrow)
 
-pub returns-in-default : goal.returns-in-default
-returns-in-default c = seen_ended _ _ _ _ _ c.loop.invariant c.args.self.now.m (omega arith) c.in-default.ensures
+pub returns-in_default : goal.returns-in_default
+returns-in_default c = seen_ended _ _ _ _ _ c.loop.invariant c.args.self.now.m (omega arith) c.in_default.ensures
 
-pub overflow-add-count : goal.overflow-add-count
-overflow-add-count c =
+pub overflow_add-count : goal.overflow_add-count
+overflow_add-count c =
     let few = seen_few _ _ _ _ _ c.loop.invariant in
     let is = mark_is c in
     let one = mark_one c.args.self.now.y c.in-Some.score in
