@@ -1,7 +1,7 @@
 -- What the check of a list of scores tells.
 use Rattle.std.proofs.Common.{◌≡◌, ℕ, ◌≤◌, Bool, true, false, cond, leb, List, [], ◌∷◌, ◌++◌, length, ℤ, Ok, Err, Result, refl, ap, ◌∙◌, arith}
 use Rattle.std.proofs.lemmas.Bool.{leb-true, le-leb, and_parts, and_from}
-use Rattle.std.specs.List.{AllByRecursion as All}
+use Rattle.std.specs.List.{AllByRecursion}
 use Rattle.common.specs.Score.{is_score, Score}
 use Rattle.charts.specs.Scores.{are_scores, checked}
 use Rattle.charts.specs.declared.fault.ChartFault.{ChartFault}
@@ -29,7 +29,7 @@ are_scores_parts (x ∷ xs) ys q =
     (and_from (is_score x) (are_scores xs) both.0 rest.0, rest.1)
 
 -- a list of which each passes the test is a list of scores
-pub all_scores : (xs : List ℤ) → are_scores xs ≡ true → All Score xs
+pub all_scores : (xs : List ℤ) → are_scores xs ≡ true → AllByRecursion Score xs
 all_scores [] q = tt
 all_scores (x ∷ xs) q = let both = and_parts (is_score x) (are_scores xs) q in (both.0, all_scores xs both.1)
 

@@ -7,7 +7,7 @@
 --             after a word other than 0 the next state is the start; stepping a list from the start ends with
 --             its look-back word, if every shorter beginning has look-back word 0
 use Rattle.std.specs.Prelude.{◌≡◌, ℕ, ◌^◌, ◌<◌, ◌≤◌, List, [], ◌∷◌, ◌++◌, ℤ, Some, Option, ◌≢◌}
-use Rattle.std.specs.List.{AllByRecursion as All}
+use Rattle.std.specs.List.{AllByRecursion}
 use Rattle.common.specs.Score.{Score}
 
 pub record Model : Type 0 where
@@ -31,9 +31,9 @@ pub record Sized (m : Model) (n : ℕ) : Type 0 where
   pub start_below : m.start < n
   pub next_below : (s : ℕ) (x : ℤ) → s < n → Score x → m.next s x < n
   pub word_below : (s : ℕ) (x : ℤ) → s < n → Score x → m.word s x < 2 ^ m.leaves
-  pub look_below : (xs : List ℤ) → All Score xs → m.look xs < 2 ^ m.leaves
+  pub look_below : (xs : List ℤ) → AllByRecursion Score xs → m.look xs < 2 ^ m.leaves
   pub restarts : (s : ℕ) (x : ℤ) → s < n → Score x → (m.word s x ≢ 0) → m.next s x ≡ m.start
-  pub agrees : (before : List ℤ) (last : ℤ) → All Score before → Score last → Quiet m.look before → m.word (run m.next m.start before) last ≡ m.look (before ++ last ∷ [])
+  pub agrees : (before : List ℤ) (last : ℤ) → AllByRecursion Score before → Score last → Quiet m.look before → m.word (run m.next m.start before) last ≡ m.look (before ++ last ∷ [])
 
 pub record Lawful (m : Model) : Type 0 where
   pub look_none : m.look [] ≡ 0

@@ -2,7 +2,7 @@
 use Rattle.std.specs.Prelude.{◌≡◌, ℕ, ◌+◌, ◌*◌, ◌/◌, ◌%◌, ◌^◌, ◌<◌, ◌≤◌, Bool, true, false, cond, ◌&&◌, List, [], ◌∷◌, ◌++◌, ℤ, Some, None, Option, ◌==◌, ◌≢◌, nat_le, refl}
 use Rattle.std.proofs.Common.{sym, ap, ap₂, ◌∙◌, subst, arith}
 use Rattle.std.specs.Option.{unwrap_or}
-use Rattle.std.specs.List.{AllByRecursion as All}
+use Rattle.std.specs.List.{AllByRecursion}
 use Rattle.std.proofs.lemmas.Nat.{mul-le, mul-add-lt, div-mul-add, mod-mul-add, div_below, mod_below, pow-add, pow_pos}
 use Rattle.std.proofs.lemmas.Bool.{leb-true, eq-eqb, ne_eqb, and_parts}
 use Rattle.common.specs.Score.{Score}
@@ -95,7 +95,7 @@ module _ (a b : Model) (la : Lawful a) (lb : Lawful b) (n : ℕ) (d : Parts a b 
   pair_word_below : (s : ℕ) (x : ℤ) → s < n → Score x → word_at a b s x < 2 ^ (a.leaves + b.leaves)
   pair_word_below s x h k = word_fits a b _ _ (sized_first.word_below _ x (first_of s h) k) (sized_second.word_below _ x (second_of s h) k)
 
-  pair_look_below : (xs : List ℤ) → All Score xs → (pair a b).look xs < 2 ^ (a.leaves + b.leaves)
+  pair_look_below : (xs : List ℤ) → AllByRecursion Score xs → (pair a b).look xs < 2 ^ (a.leaves + b.leaves)
   pair_look_below xs k = word_fits a b _ _ (sized_first.look_below xs k) (sized_second.look_below xs k)
 
   pair_restarts : (s : ℕ) (x : ℤ) → (word_at a b s x ≢ 0) → (pair a b).next s x ≡ pair_start a b
@@ -115,7 +115,7 @@ module _ (a b : Model) (la : Lawful a) (lb : Lawful b) (n : ℕ) (d : Parts a b 
   Both xs = run (pair a b).next (pair_start a b) xs ≡ run a.next a.start xs * states b + run b.next b.start xs
 
   -- so at the next score the word is the look-back word
-  word_at_last : (xs : List ℤ) (x : ℤ) → All Score xs → Score x → Quiet (pair a b).look xs → Both xs → word_at a b (run (pair a b).next (pair_start a b) xs) x ≡ (pair a b).look (xs ++ x ∷ [])
+  word_at_last : (xs : List ℤ) (x : ℤ) → AllByRecursion Score xs → Score x → Quiet (pair a b).look xs → Both xs → word_at a b (run (pair a b).next (pair_start a b) xs) x ≡ (pair a b).look (xs ++ x ∷ [])
   word_at_last xs x k last quiet both =
       let r = run a.next a.start xs in
       let t = run b.next b.start xs in
@@ -124,10 +124,10 @@ module _ (a b : Model) (la : Lawful a) (lb : Lawful b) (n : ℕ) (d : Parts a b 
       ∙ ap₂ (λ u v. pair_word a (a.word u x) (b.word v x)) (div-mul-add r (states b) t below) (mod-mul-add r (states b) t below)
       ∙ ap₂ (pair_word a) (sized_first.agrees xs x k last (quiet_first xs quiet)) (sized_second.agrees xs x k last (quiet_second xs quiet))
 
-  both : (xs : List ℤ) → All Score xs → Quiet (pair a b).look xs → Both xs
-  both = snoc_ind (λ xs. All Score xs → Quiet (pair a b).look xs → Both xs) (λ k quiet. refl) more
+  both : (xs : List ℤ) → AllByRecursion Score xs → Quiet (pair a b).look xs → Both xs
+  both = snoc_ind (λ xs. AllByRecursion Score xs → Quiet (pair a b).look xs → Both xs) (λ k quiet. refl) more
     where
-      more : (xs : List ℤ) (x : ℤ) → (All Score xs → Quiet (pair a b).look xs → Both xs) → All Score (xs ++ x ∷ []) → Quiet (pair a b).look (xs ++ x ∷ []) → Both (xs ++ x ∷ [])
+      more : (xs : List ℤ) (x : ℤ) → (AllByRecursion Score xs → Quiet (pair a b).look xs → Both xs) → AllByRecursion Score (xs ++ x ∷ []) → Quiet (pair a b).look (xs ++ x ∷ []) → Both (xs ++ x ∷ [])
       more xs x before k quiet =
           let kb = all_before xs x k in
           let qb = quiet_before (pair a b).look xs x quiet in

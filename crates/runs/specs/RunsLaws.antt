@@ -2,7 +2,7 @@
 use Rattle.std.specs.Prelude.{◌≡◌, ℕ, ◌-◌, ◌%◌, ◌^◌, ◌<◌, ◌≤◌, Bool, true, false, cond, leb, List, [], ◌∷◌, ◌++◌, ℤ, nat_le}
 use Rattle.std.proofs.Common.{sym, ap, ◌∙◌, subst, mod-lt, arith, pow_pos, pow_mono}
 use Rattle.std.proofs.Math.Seq.{drop-nil}
-use Rattle.std.specs.List.{AllByRecursion as All}
+use Rattle.std.specs.List.{AllByRecursion}
 use Rattle.std.proofs.lemmas.Bool.{lt-leb}
 use Rattle.common.specs.Score.{Score}
 use Rattle.charts.specs.Model.{Lawful, Quiet, run}
@@ -20,13 +20,13 @@ module _ (t m : ℕ) (y : ℤ) (some : 1 ≤ m) where
   word_is : (xs : List ℤ) (x : ℤ) → reached t m (marked y (state xs) x) ≡ nat_le t (count_in y (last_scores m (xs ++ x ∷ [])))
   word_is xs x = ap (leb t) (marks_push y m xs x (state xs) some (marks_low y xs (m - 1)))
 
-  carried : (xs : List ℤ) (x : ℤ) → All Score xs → Score x → Quiet (runs t m y).look xs → (runs t m y).look (xs ++ x ∷ []) ≡ 0 → (runs t m y).next (state xs) x ≡ state (xs ++ x ∷ [])
+  carried : (xs : List ℤ) (x : ℤ) → AllByRecursion Score xs → Score x → Quiet (runs t m y).look xs → (runs t m y).look (xs ++ x ∷ []) ≡ 0 → (runs t m y).next (state xs) x ≡ state (xs ++ x ∷ [])
   carried xs x k q quiet still =
       ap (λ b. cond b 0 (marked y (state xs) x % 2 ^ (m - 1))) (word_is xs x ∙ bit_none (nat_le t (count_in y (last_scores m (xs ++ x ∷ [])))) still)
       ∙ twice_low (marks y xs) (mark y x) (2 ^ (m - 1))
       ∙ sym (ap (λ n. n % 2 ^ (m - 1)) (run_push (marked y) 0 xs x))
 
-  tracks : (xs : List ℤ) → All Score xs → Quiet (runs t m y).look xs → run (runs t m y).next 0 xs ≡ state xs
+  tracks : (xs : List ℤ) → AllByRecursion Score xs → Quiet (runs t m y).look xs → run (runs t m y).next 0 xs ≡ state xs
   tracks = run_tracks (runs t m y) state none carried
     where
       none : 0 % 2 ^ (m - 1) ≡ 0

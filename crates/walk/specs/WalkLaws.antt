@@ -1,7 +1,7 @@
 -- The laws of the random walk: after a quiet list the state stands for the total of the list.
 use Rattle.std.specs.Prelude.{◌≡◌, ℕ, ◌-◌, ◌*◌, ◌<◌, ◌≤◌, Bool, true, false, cond, List, [], ◌∷◌, ◌++◌, ℤ, pos, ◌+ℤ◌, neg_ℤ, int_le, refl}
 use Rattle.std.proofs.Common.{sym, ap, ◌∙◌, subst, arith}
-use Rattle.std.specs.List.{AllByRecursion as All}
+use Rattle.std.specs.List.{AllByRecursion}
 use Rattle.std.proofs.lemmas.List.{append-nil}
 use Rattle.std.proofs.lemmas.Int.{ints}
 use Rattle.std.proofs.lemmas.Bool.{or_parts, or_from}
@@ -38,12 +38,12 @@ module _ (h : ℕ) (some : 1 ≤ h) where
   moved_on : (xs : List ℤ) (x : ℤ) → Quiet (walk h).look xs → moved h (state_of h (total xs)) x ≡ total (xs ++ x ∷ [])
   moved_on xs x quiet = ap (λ t. t +ℤ x) (stands (total xs) (whole_quiet xs quiet)) ∙ sym (total_push xs x)
 
-  carried : (xs : List ℤ) (x : ℤ) → All Score xs → Score x → Quiet (walk h).look xs → (walk h).look (xs ++ x ∷ []) ≡ 0 → (walk h).next (state_of h (total xs)) x ≡ state_of h (total (xs ++ x ∷ []))
+  carried : (xs : List ℤ) (x : ℤ) → AllByRecursion Score xs → Score x → Quiet (walk h).look xs → (walk h).look (xs ++ x ∷ []) ≡ 0 → (walk h).next (state_of h (total xs)) x ≡ state_of h (total (xs ++ x ∷ []))
   carried xs x k q quiet still =
       ap (λ t. cond (outside h t) (h - 1) (state_of h t)) (moved_on xs x quiet)
       ∙ ap (λ b. cond b (h - 1) (state_of h (total (xs ++ x ∷ [])))) (bit_none (outside h (total (xs ++ x ∷ []))) still)
 
-  tracks : (xs : List ℤ) → All Score xs → Quiet (walk h).look xs → run (walk h).next (walk h).start xs ≡ state_of h (total xs)
+  tracks : (xs : List ℤ) → AllByRecursion Score xs → Quiet (walk h).look xs → run (walk h).next (walk h).start xs ≡ state_of h (total xs)
   tracks = run_tracks (walk h) (λ xs. state_of h (total xs)) state_none carried
 
 pub walk_lawful : (h : ℕ) → 1 ≤ h → h ≤ 2048 → Lawful (walk h)
