@@ -1,5 +1,5 @@
 -- What the calls of a chart answer, from its meaning.
---   size_of    the size, with the leaves beside it
+--   size_of   the size, with the leaves beside it
 --   started   the start state, or refusal 5
 --   stepped   next state and word together; 5 where the size is absent, then 6 for a state not below it or no score
 --   taken     the word, where the check of the list passes; else its refusal

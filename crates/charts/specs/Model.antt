@@ -1,11 +1,11 @@
 -- What a chart is, and the laws that every chart keeps.
---   Model     a chart by its meaning: size, start state, leaves, a step's next state and word, the look-back word of a list
---   run       the state after stepping through a list of scores, the oldest first
---   Quiet     the look-back word of every beginning of a list, and of the whole, is 0
---   Lawful    what every chart shows: Sized where it has a size, and 0 for the empty list
---   Sized     start and next states are below the size; words, looked back too, are below 2 to the leaves;
---             after a word other than 0 the next state is the start; stepping a list from the start ends with
---             its look-back word, if every shorter beginning has look-back word 0
+--   Model    a chart by its meaning: size, start state, leaves, a step's next state and word, the look-back word of a list
+--   run      the state after stepping through a list of scores, the oldest first
+--   Quiet    the look-back word of every beginning of a list, and of the whole, is 0
+--   Lawful   what every chart shows: Sized where it has a size, and 0 for the empty list
+--   Sized    start and next states are below the size; words, looked back too, are below 2 to the leaves;
+--            after a word other than 0 the next state is the start; stepping a list from the start ends with
+--            its look-back word, if every shorter beginning has look-back word 0
 use Rattle.std.specs.Prelude.{◌≡◌, ℕ, ◌^◌, ◌<◌, ◌≤◌, List, [], ◌∷◌, ◌++◌, ℤ, Some, Option, ◌≢◌}
 use Rattle.std.specs.List.{AllByRecursion}
 use Rattle.common.specs.Score.{Score}

@@ -1,9 +1,9 @@
 -- Lists of scores, as a look-back takes them.
---   listed      the list that a view stands for, the oldest score first
+--   listed       the list that a view stands for, the oldest score first
 --   are_scores   whether every number of a list is a score
---   checked     whether a look-back takes a list: 15 where it has more than 4,096 numbers, then 6 where one is no score
---   latest      the latest score of a list, if it has one
---   LastOf      a list split at its end: nothing of an empty list, else the last element and those before it
+--   checked      whether a look-back takes a list: 15 where it has more than 4,096 numbers, then 6 where one is no score
+--   latest       the latest score of a list, if it has one
+--   LastOf       a list split at its end: nothing of an empty list, else the last element and those before it
 use Rattle.std.specs.Prelude.{◌≡◌, Bool, true, cond, ◌&&◌, List, [], ◌∷◌, ◌++◌, length, ℤ, Some, None, Ok, Err, Option, Result, nat_le}
 use Rattle.common.specs.Score.{is_score}
 use Rattle.charts.specs.declared.fault.ChartFault.{ChartFault}

@@ -7,7 +7,7 @@ use Rattle.charts.specs.Model.{Model, Lawful}
 use Rattle.charts.specs.declared.fault.ChartFault.{ChartFault}
 use Rattle.charts.proofs.Looking.{passed, all_scores}
 use Rattle.charts.proofs.Stepping.{started_is, stepped_is, stepped_ok, looked_is}
-use Rattle.combined.specs.Pair.{states, pair}
+use Rattle.combined.specs.Pair.{pair}
 use Rattle.combined.specs.PairLaws.{parts, sized_first, sized_second, side, first_of, second_of, word_fits}
 
 some_same : {o : Option ℕ} {m n : ℕ} → o ≡ Some m → o ≡ Some n → m ≡ n

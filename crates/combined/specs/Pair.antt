@@ -1,10 +1,10 @@
 -- Two charts side by side.
---   product     the size: the product of both; absent where either is, above 65,536, and where the leaves together pass 16
---   states      the number of states of a chart that has a size
+--   product      the size: the product of both; absent where either is, above 65,536, and where the leaves together pass 16
+--   states       the number of states of a chart that has a size
 --   pair_word    the word: the first's bits, and above them the second's
 --   pair_start   the start state: the first's times the states of the second, plus the second's
 --   word_at      the word at a state s and a score: the first is at s / states of the second, the second at the remainder
---   pair        both charts; where either alarms, both go to their starts
+--   pair         both charts; where either alarms, both go to their starts
 use Rattle.std.specs.Prelude.{ℕ, ◌+◌, ◌*◌, ◌/◌, ◌%◌, ◌^◌, cond, ◌&&◌, ℤ, Some, None, Option, ◌==◌, nat_le}
 use Rattle.std.specs.Option.{unwrap_or}
 use Rattle.charts.specs.Model.{Model}

@@ -1,6 +1,6 @@
 -- Scores.
 --   is_score   whether a whole number is a score: from -1,000 to 1,000
---   Score     the same, as a fact
+--   Score      the same, as a fact
 use Rattle.std.specs.Prelude.{◌≡◌, Bool, true, ◌&&◌, ℤ, pos, negsuc, int_le}
 
 abbrev pub is_score : ℤ → Bool

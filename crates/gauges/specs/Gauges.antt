@@ -1,6 +1,6 @@
 -- The score by gauges, with the limits p, q, r, s and the scores a and b.
 --   zone_score    -b up to and including p; -a above p, up to and including q; 0 strictly between q and r; a from r to below
---                s; b from s on
+--                 s; b from s on
 --   gauge_score   the score of the zone, where the reading is taken; else its refusal, 10, 11 or 12
 use Rattle.std.specs.Prelude.{cond, ℤ, pos, neg_ℤ, Ok, Result, Float}
 use Rattle.std.specs.Float.Ieee.{le, lt}

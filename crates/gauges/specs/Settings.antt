@@ -3,7 +3,7 @@
 --   is_rising      whether four limits strictly rise
 --   in_order       whether two scores have 1 <= a < b <= 1,000
 --   gauges_fault   1 where a limit is out of its range, then 2 where the limits do not rise, then 3 where the scores are not
---                 in order
+--                  in order
 use Rattle.std.specs.Prelude.{Bool, cond, not, ◌&&◌, ℤ, pos, Some, None, Option, int_le, int_lt, Float}
 use Rattle.std.specs.Float.Ieee.{lt}
 use Rattle.scoring.specs.Range.{in_range}

@@ -3,11 +3,11 @@
 --   nearest_up_is   it is the k with n / d from k - 1/2 to below k + 1/2, here with every part times 2 * d
 --   signed_by       a size with a sign, where true is minus
 --   nearest_score   the whole number nearest to a float, halves away from zero, where it is a score; an infinity and what is
---                  not a number have none. The finite float of sign s, digits m and exponent e is the number m times 2 to
---                  the power e with that sign, which is the fraction of m * up e and down e
+--                   not a number have none. The finite float of sign s, digits m and exponent e is the number m times 2 to
+--                   the power e with that sign, which is the fraction of m * up e and down e
 --   quotient_of     the reading less the target, by the unit, each rounded once
 --   measure_score   the score nearest to the quotient, where the reading is taken and there is one; else the reading's
---                  refusal, 10, 11 or 12, or 13 with the quotient
+--                   refusal, 10, 11 or 12, or 13 with the quotient
 use Rattle.std.specs.Prelude.{ℕ, ◌+◌, ◌*◌, ◌/◌, ◌<◌, ◌≤◌, Bool, true, false, cond, ℤ, pos, neg_ℤ, Some, None, Option, Result, Float}
 use Rattle.std.proofs.Common.{div-add-mod', le-div_iff_mul-le, mod-lt, arith}
 use Rattle.std.specs.Float.{nan, inf, fin, binary64}

@@ -1,11 +1,11 @@
 -- Page's cumulative sum, with the V-mask as its look-back.
---   excess          the sum of (score - k) over a list
+--   excess           the sum of (score - k) over a list
 --   trailing_parts   the non-empty trailing parts of a list, the longest first
 --   any_of           whether one of several lists passes a test
---   masked          the V-mask: some trailing part has an excess of at least h, or headstart plus the excess of the whole list has
---   raised          the sum T that a score makes of the state
---   floored         T, or 0 where it is below
---   page            the chart with decision interval h, reference value k and headstart s0
+--   masked           the V-mask: some trailing part has an excess of at least h, or headstart plus the excess of the whole list has
+--   raised           the sum T that a score makes of the state
+--   floored          T, or 0 where it is below
+--   page             the chart with decision interval h, reference value k and headstart s0
 use Rattle.std.specs.Prelude.{ℕ, Bool, false, cond, ◌||◌, List, [], ◌∷◌, ℤ, pos, negsuc, ◌+ℤ◌, ◌-ℤ◌, Some, int_le}
 use Rattle.charts.specs.Model.{Model}
 use Rattle.charts.specs.Words.{bit}

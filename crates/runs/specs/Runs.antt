@@ -1,11 +1,11 @@
 -- A runs rule, as the Western Electric rules have several: at least t of the last m scores are above y.
---   counts       whether a score counts: it is above y
---   mark         1 where a score counts, else 0
+--   counts        whether a score counts: it is above y
+--   mark          1 where a score counts, else 0
 --   count_in      how many scores of a list count
 --   last_scores   the last m scores of a list, or all where it has fewer
---   marked       the marks with a score's own as the lowest bit, and those before it moved up
---   reached      whether at least t of the m lowest marks are set
---   runs         the chart; its state holds the marks of the last m - 1 scores
+--   marked        the marks with a score's own as the lowest bit, and those before it moved up
+--   reached       whether at least t of the m lowest marks are set
+--   runs          the chart; its state holds the marks of the last m - 1 scores
 use Rattle.std.specs.Prelude.{ℕ, ◌+◌, ◌-◌, ◌*◌, ◌%◌, ◌^◌, Bool, cond, List, [], ◌∷◌, length, drop, ℤ, Some, int_lt, nat_le}
 use Rattle.std.specs.Int.Count.{ones_in}
 use Rattle.charts.specs.Model.{Model}

@@ -1,6 +1,6 @@
 -- The refusals of sources.
---   source_refusal          of a reading: 10 not a number; 11 below the range and 12 above it, with the reading; 13 with the
---                          quotient and 14 with the difference that make no score
+--   source_refusal           of a reading: 10 not a number; 11 below the range and 12 above it, with the reading; 13 with the
+--                            quotient and 14 with the difference that make no score
 --   source_setting_refusal   of making a source: 1 a setting out of its range, 2 limits that do not rise, 3 scores out of order
 use Rattle.common.specs.Refusals.{bare, carrying}
 use Rattle.common.specs.declared.refusal.Carried.TheVariants.{Value, Difference}

@@ -1,7 +1,7 @@
 -- The range of what is measured.
 --   million      1,000,000
 --   million_is   its bits stand for that whole number
---   in_range      whether a float is from -1,000,000 to 1,000,000; no infinity is, nor what is not a number
+--   in_range     whether a float is from -1,000,000 to 1,000,000; no infinity is, nor what is not a number
 --   admitted     whether a measured reading is taken: 10 where it is not a number, then 11 below the range and 12 above it,
 --                with the reading
 use Rattle.std.specs.Prelude.{◌≡◌, Bool, cond, ◌&&◌, pos, Ok, Err, Result, is_nan, refl, Float}

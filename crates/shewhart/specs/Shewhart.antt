@@ -1,7 +1,7 @@
 -- The Shewhart limit.
---   above         whether there is a score and it is above c
+--   above          whether there is a score and it is above c
 --   latest_above   whether the latest score of a list is above c
---   shewhart      the chart with limit c, which has one state
+--   shewhart       the chart with limit c, which has one state
 use Rattle.std.specs.Prelude.{Bool, false, List, ℤ, Some, None, Option, int_lt}
 use Rattle.charts.specs.Model.{Model}
 use Rattle.charts.specs.Scores.{latest}

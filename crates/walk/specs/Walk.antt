@@ -1,10 +1,10 @@
 -- A random walk with two limits.
---   total     the sum of a list of scores
---   outside   whether a total is at least h, or at most -h
+--   total      the sum of a list of scores
+--   outside    whether a total is at least h, or at most -h
 --   total_at   the total that a state stands for
 --   state_of   the state that stands for a total between the limits: total + h - 1
---   moved     the total that a score makes of the state
---   walk      the chart with limits h and -h
+--   moved      the total that a score makes of the state
+--   walk       the chart with limits h and -h
 use Rattle.std.specs.Prelude.{ℕ, ◌-◌, ◌*◌, Bool, cond, ◌||◌, List, [], ◌∷◌, ℤ, pos, ◌+ℤ◌, ◌-ℤ◌, neg_ℤ, Some, int_le, unsigned_abs}
 use Rattle.charts.specs.Model.{Model}
 use Rattle.charts.specs.Words.{bit}
