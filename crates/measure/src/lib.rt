@@ -6,7 +6,7 @@ ghost use Rattle.common.specs.Made.{Made};
 ghost use Rattle.measure.specs.Measure.{measure_score, nearest_score};
 ghost use Rattle.measure.specs.Settings.{is_unit, measure_fault};
 ghost use Rattle.scoring.specs.Range.{in_range};
-ghost use Rattle.std.proofs.Common.{rules, arith};
+ghost use Rattle.std.proofs.Common.{rules};
 
 use scoring::{Source, SourceFault, SourceSettingFault, admit, is_in_range};
 
@@ -39,7 +39,7 @@ impl Source for Measure {
 
     ghost score = { λ m. measure_score m.target m.unit };
 
-    ghost within = { first_of (Prim.search rules, Prim.grind (arith, Self.row.coded.inj)) };
+    ghost within = { Prim.search rules };
 
     fn score(&self, reading: f64) -> Result<i16, SourceFault> {
         admit(reading)?;
