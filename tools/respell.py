@@ -3,8 +3,8 @@
 
     python3 tools/respell.py        at the top of the repository, once, after the kit's port.py
 
-It goes by whole names, in the .antt files, in the clauses and ghost lines of the .rt files, and between backticks in
-the pages. Functions of src/ keep their names.
+It goes by whole names, in the .antt and .rt files, where only clauses and ghost lines have them, and between backticks
+in the pages. Functions of src/ keep their names.
 """
 import pathlib
 import re
