@@ -1,57 +1,63 @@
 // What the command line asks for: a source, and the leaves that are set side by side.
-use crate::leaves::leaf_of;
-use crate::leaves::no_leaf;
-use crate::source::source_of;
 use crate::words::Words;
-use charts::Chart;
-use charts::ChartFault;
-use charts::ChartFaultRefusal;
+use combined::Pair;
 use common::Fault;
 use complaints::refused;
-use sheet::Sheet;
-use sheet::SheetChart;
-use sources::AnySource;
+use page::Page;
+use scoring::Count;
+use shewhart::Shewhart;
 use std::alloc::Global;
-use std::error::AnyError;
 
 #[derive(Drop)]
 pub struct Request {
-    pub source: AnySource,
-    pub sheet: Sheet,
-    // the leaves as they were asked for, from the left
-    pub leaves: Vec<String>,
+    pub source: Count,
+    pub chart: Pair<Page, Shewhart>,
 }
 
-pub fn request_of(heap: Global, words: &[String]) -> Result<Request, AnyError> {
+pub fn request_of(heap: Global, words: &[String]) -> anyhow::Result<Request> {
     let mut rest = Words::new(words);
-    let source = source_of(heap, &mut rest)?;
-    let (sheet, leaves) = sheet_of(heap, &mut rest)?;
-    Ok(Request {
-        source,
-        sheet,
-        leaves,
+    let source = count_of(heap, &mut rest)?;
+    let first = page_of(heap, &mut rest)?;
+    let second = shewhart_of(heap, &mut rest)?;
+    rest.end(heap)?;
+    let chart = Pair { first, second };
+    Ok(Request { source, chart })
+}
+
+fn count_of(heap: Global, words: &mut Words<'_>) -> anyhow::Result<Count> {
+    words.keyword(heap, "count")?;
+    Ok(Count {
+        centre: words.number::<u16>(heap, "a centre from 0 to 65535")?,
     })
 }
 
-// The sheet of the leaves that the rest of the words ask for, and what was asked for each. It has a size.
-pub fn sheet_of(heap: Global, words: &mut Words<'_>) -> Result<(Sheet, Vec<String>), AnyError> {
-    let mut leaves = Vec::new(heap);
-    let mut sheet = Sheet::new(leaf_of(heap, words, &mut leaves)?);
-    // a ninth leaf is refused, so there are no words left after the eighth turn
-    for _ in 0..8 {
-        if words.is_done() {
-            break;
-        }
-        let place = words.place().saturating_add(1);
-        let leaf = leaf_of(heap, words, &mut leaves)?;
-        if let Err(fault) = sheet.add(leaf) {
-            return Err(no_leaf(heap, place, &fault, "a sheet takes 8 leaves")?);
+fn page_of(heap: Global, words: &mut Words<'_>) -> anyhow::Result<Page> {
+    words.keyword(heap, "page")?;
+    let place = words.place();
+    let h = words.number::<u16>(heap, "h of page, from 1 to 4096")?;
+    let k = words.number::<i16>(heap, "k of page, from -1000 to 1000")?;
+    let s0 = words.number::<u16>(heap, "s0 of page, from 0 to h - 1")?;
+    match Page::new(h, k, s0) {
+        Ok(page) => Ok(page),
+        Err(fault) => {
+            let rule = "page takes h from 1 to 4096, k from -1000 to 1000, s0 from 0 to h - 1";
+            Err(refused(heap, fault.refusal().number, "argument", place, rule)?)
         }
     }
-    if sheet.size().is_none() {
-        let rule = "these leaves have more than 65536 states together";
-        let number = ChartFault::NoSize.refusal().number;
-        return Err(refused(heap, number, "argument", words.place(), rule)?);
+}
+
+fn shewhart_of(heap: Global, words: &mut Words<'_>) -> anyhow::Result<Shewhart> {
+    words.keyword(heap, "shewhart")?;
+    let place = words.place();
+    let c = words.number::<i16>(heap, "c of shewhart, from -1000 to 1000")?;
+    match Shewhart::new(c) {
+        Ok(shewhart) => Ok(shewhart),
+        Err(fault) => Err(refused(
+            heap,
+            fault.refusal().number,
+            "argument",
+            place,
+            "shewhart takes c from -1000 to 1000",
+        )?),
     }
-    Ok((sheet, leaves))
 }

@@ -1,8 +1,6 @@
 // The words of the command line, read one after the other. Places count from 1.
 use complaints::unfit;
-use std::alloc::AllocError;
 use std::alloc::Global;
-use std::error::AnyError;
 use std::str::FromStr;
 
 #[derive(Drop)]
@@ -21,12 +19,8 @@ impl<'a> Words<'a> {
         self.place
     }
 
-    pub fn is_done(&self) -> bool {
-        self.place >= self.words.len()
-    }
-
     // The next word; none is as an empty one.
-    fn word(&mut self) -> &'a str {
+    fn next_word(&mut self) -> &'a str {
         let at = self.place;
         if at >= self.words.len() {
             return "";
@@ -35,47 +29,35 @@ impl<'a> Words<'a> {
         self.words[at].as_str()
     }
 
-    // Whether the next word is this one, which is then read.
-    pub fn takes(&mut self, what: &str) -> bool {
-        let at = self.place;
-        if at >= self.words.len() || self.words[at].as_str() != what {
-            return false;
-        }
-        self.place = at + 1;
-        true
-    }
-
-    // The next word is not `what` it is to be.
-    pub fn unfit(&mut self, heap: Global, what: &str) -> Result<AnyError, AllocError> {
+    pub fn keyword(&mut self, heap: Global, what: &str) -> anyhow::Result<()> {
         let place = self.place.saturating_add(1);
-        let word = self.word();
-        unfit(heap, "argument", place, what, word)
+        let word = self.next_word();
+        if word == what {
+            Ok(())
+        } else {
+            Err(unfit(heap, "argument", place, what, word)?)
+        }
     }
 
     // The next word as a number, which is to be `what`.
-    pub fn number<N: FromStr>(&mut self, heap: Global, what: &str) -> Result<N, AnyError>
+    pub fn number<N: FromStr>(&mut self, heap: Global, what: &str) -> anyhow::Result<N>
     where
         N::Err: Drop,
     {
         let place = self.place.saturating_add(1);
-        let word = self.word();
+        let word = self.next_word();
         match word.parse::<N>() {
             Ok(n) => Ok(n),
             Err(_) => Err(unfit(heap, "argument", place, what, word)?),
         }
     }
 
-    // The words that were read after this place, with blanks between them.
-    pub fn since(&self, heap: Global, place: usize) -> Result<String, AllocError> {
-        let mut text = String::new(heap);
-        for (i, word) in self.words.iter().enumerate() {
-            if place <= i && i < self.place {
-                if place < i {
-                    text.push_str(" ")?;
-                }
-                text.push_str(word.as_str())?;
-            }
+    pub fn end(&mut self, heap: Global) -> anyhow::Result<()> {
+        let place = self.place.saturating_add(1);
+        if place > self.words.len() {
+            return Ok(());
         }
-        Ok(text)
+        let word = self.next_word();
+        Err(unfit(heap, "argument", place, "the end", word)?)
     }
 }

@@ -1,7 +1,6 @@
 pub mod Backward
 pub mod Lists
 pub mod Looking
-pub mod Opposite
 pub mod Running
 pub mod Stepping
 pub mod WordLaws

@@ -1,12 +1,60 @@
 -- What the answers of a chart tell of its meaning.
-use mathlib.Core.Path.{_≡_, refl}
-use Prim.Native.Nat.{ℕ}
-use Rattle·std.specs.Options.{isSome}
-use Rattle·std.specs.declared.option.Option.{Option}
-use Rattle·std.specs.declared.option.Option.the-variants.{Some, None}
-use Rattle·charts·specs.Answers.{sizeOf}
+use Rattle.std.proofs.Common.{◌≡◌, ℕ, ◌<◌, Bool, true, false, cond, ◌&&◌, ltb, List, ℤ, is_some, Some, None, Ok, Err, Option, Result, sym, refl, ap, ◌∙◌, arith}
+use Rattle.std.proofs.lemmas.Bool.{ltb-true, lt-ltb, and_parts, and_from}
+use Rattle.common.specs.Score.{is_score, Score}
+use Rattle.charts.specs.Answers.{size_of, started, stepped, taken, looked}
+use Rattle.charts.specs.Scores.{checked}
+use Rattle.charts.specs.declared.chart.Size.{Size}
+use Rattle.charts.specs.declared.fault.ChartFault.{ChartFault}
+use Rattle.charts.specs.declared.fault.ChartFault.TheVariants.{OutOfRange}
 
--- there is an answer where there is a size
-pub size-there : (size : Option ℕ) (start leaves : ℕ) → isSome (sizeOf size start leaves) ≡ isSome size
-size-there None start leaves = refl
-size-there (Some n) start leaves = refl
+-- a size that is answered
+pub size_is : (size : Option ℕ) (leaves : ℕ) (z : Size) → size_of size leaves ≡ Some z → (size ≡ Some z.states) × (z.leaves ≡ leaves)
+size_is None leaves z e = let n : ◌≡◌ {A = ℕ} 0 1 = cc in absurd (omega arith)
+size_is (Some n) leaves z e =
+    let same : ◌≡◌ {A = Size} (record { states = n; leaves = leaves }) z = cc in
+    (ap (λ y. Some y.states) same, sym (ap (λ y. y.leaves) same))
+
+-- there is one where there is a size
+pub size_there : (size : Option ℕ) (leaves : ℕ) → is_some (size_of size leaves) ≡ is_some size
+size_there None leaves = refl
+size_there (Some n) leaves = refl
+
+-- a start that is answered is the start
+pub started_is : (size : Option ℕ) (start s : ℕ) → started size start ≡ Ok s → s ≡ start
+started_is None start s e = let z : ◌≡◌ {A = ℕ} 0 1 = cc in absurd (omega arith)
+started_is (Some n) start s e = cc
+
+-- a step that is answered is the step from a state below the size by a score
+pub record Took (size : Option ℕ) (next word : ℕ → ℤ → ℕ) (s : ℕ) (x : ℤ) (t w : ℕ) : Type 0 where
+  pub n : ℕ
+  pub sized : size ≡ Some n
+  pub below : s < n
+  pub score : Score x
+  pub state : t ≡ next s x
+  pub bits : w ≡ word s x
+
+pub stepped_is : (size : Option ℕ) (next word : ℕ → ℤ → ℕ) (s : ℕ) (x : ℤ) (t w : ℕ) → stepped size next word s x ≡ Ok (t, w) → Took size next word s x t w
+stepped_is None next word s x t w e = let z : ◌≡◌ {A = ℕ} 0 1 = cc in absurd (omega arith)
+stepped_is (Some n) next word s x t w e = go (ltb s n && is_score x) refl e
+  where
+    go : (b : Bool) → (ltb s n && is_score x) ≡ b → ◌≡◌ {A = Result (ℕ × ℕ) ChartFault} (cond b (Ok (next s x, word s x)) (Err OutOfRange)) (Ok (t, w)) → Took (Some n) next word s x t w
+    go true b e =
+        let both = and_parts (ltb s n) (is_score x) b in
+        let same : ◌≡◌ {A = ℕ × ℕ} (next s x, word s x) (t, w) = cc in
+        record { n = n; sized = refl; below = ltb-true s n both.0; score = both.1; state = sym (ap (λ z. z.0) same); bits = sym (ap (λ z. z.1) same) }
+    go false b e = let z : ◌≡◌ {A = ℕ} 0 1 = cc in absurd (omega arith)
+
+-- a step from a state below the size by a score is answered
+pub stepped_ok : (size : Option ℕ) (next word : ℕ → ℤ → ℕ) (s : ℕ) (x : ℤ) (n : ℕ) → size ≡ Some n → s < n → Score x → stepped size next word s x ≡ Ok (next s x, word s x)
+stepped_ok size next word s x n e b k =
+    ap (λ o. stepped o next word s x) e ∙ ap (λ t. cond {A = Result (ℕ × ℕ) ChartFault} t (Ok (next s x, word s x)) (Err OutOfRange)) (and_from (ltb s n) (is_score x) (lt-ltb s n b) k)
+
+-- a word that is answered is the look-back word, of a list that passes the check
+pub looked_is : (size : Option ℕ) (look : List ℤ → ℕ) (xs : List ℤ) (w : ℕ) → looked size look xs ≡ Ok w → (w ≡ look xs) × (checked xs ≡ Ok tt)
+looked_is None look xs w e = let z : ◌≡◌ {A = ℕ} 0 1 = cc in absurd (omega arith)
+looked_is (Some n) look xs w e = go (checked xs) refl e
+  where
+    go : (t : Result (Unit {0}) ChartFault) → checked xs ≡ t → taken t (look xs) ≡ Ok w → (w ≡ look xs) × (checked xs ≡ Ok tt)
+    go (Ok u) c e = (cc, c)
+    go (Err f) c e = let z : ◌≡◌ {A = ℕ} 0 1 = cc in absurd (omega arith)

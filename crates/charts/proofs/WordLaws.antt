@@ -1,29 +1,24 @@
 -- Words of one leaf, and bits past the end of a word.
-use mathlib.Core.Path.{_≡_, refl, ap}
-use mathlib.Core.Bool.{Bool, true, false, cond}
-use Prim.Native.Nat.{ℕ, _/_, _%_, _^_, _<_, _≤_}
-use native.Mathlib.Nat.{div-eq-of-lt}
-use native.Mathlib.Omega.{arith}
-use lib.Dec.{eqb, lit<}
-use lib.Pow.{pow-mono}
-use Rattle·charts·specs.Words.{bit, alarmed}
+use Rattle.std.proofs.Common.{◌≡◌, ℕ, ◌/◌, ◌%◌, ◌^◌, ◌<◌, ◌≤◌, Bool, true, false, cond, eqb, refl, ap, arith, lit<, pow_mono}
+use native.Mathlib.Nat.{div-eq_of_lt}
+use Rattle.charts.specs.Words.{bit, alarmed}
 
-pub bit-below : (b : Bool) → bit b < 2 ^ 1
-bit-below true = lit< tt
-bit-below false = lit< tt
+pub bit_below : (b : Bool) → bit b < 2 ^ 1
+bit_below true = lit< tt
+bit_below false = lit< tt
 
 -- the word is 0 only where the leaf is quiet
-pub bit-none : (b : Bool) → bit b ≡ 0 → b ≡ false
-bit-none true e = absurd (omega arith)
-bit-none false e = refl
+pub bit_none : (b : Bool) → bit b ≡ 0 → b ≡ false
+bit_none true e = absurd (omega arith)
+bit_none false e = refl
 
 -- after an alarm the next state is the start
 pub restarted : (b : Bool) (start next : ℕ) → (bit b ≡ 0 → ⊥) → cond b start next ≡ start
 restarted true start next alarm = refl
 restarted false start next alarm = absurd (alarm refl)
 
-pub none-past : (word leaf : ℕ) → word < 2 ^ 16 → 16 ≤ leaf → alarmed word leaf ≡ false
-none-past word leaf small past =
-    let most : 2 ^ 16 ≤ 2 ^ leaf = pow-mono past in
-    let none : word / 2 ^ leaf ≡ 0 = div-eq-of-lt (omega arith) in
+pub none_past : (word leaf : ℕ) → word < 2 ^ 16 → 16 ≤ leaf → alarmed word leaf ≡ false
+none_past word leaf small past =
+    let most : 2 ^ 16 ≤ 2 ^ leaf = pow_mono past in
+    let none : word / 2 ^ leaf ≡ 0 = div-eq_of_lt (omega arith) in
     ap (λ n. eqb (n % 2) 1) none

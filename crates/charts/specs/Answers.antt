@@ -1,30 +1,27 @@
 -- What the calls of a chart answer, from its meaning.
---   sizeOf    the size, with the start and the leaves beside it
+--   size_of   the size, with the leaves beside it
+--   started   the start state, or refusal 5
 --   stepped   next state and word together; 5 where the size is absent, then 6 for a state not below it or no score
 --   taken     the word, where the check of the list passes; else its refusal
 --   looked    the look-back word of a list; 5 where the size is absent, then 15 or 6 where the list is refused
-use mathlib.Core.Bool.{cond, _&&_}
-use Prim.Native.Nat.{ℕ}
-use lib.Dec.{ltb}
-use lib.IntN.{ℤ}
-use mathlib.Core.List.{List}
-use Rattle·std.specs.declared.option.Option.{Option}
-use Rattle·std.specs.declared.option.Option.the-variants.{Some, None}
-use Rattle·std.specs.declared.result.Result.{Result}
-use Rattle·std.specs.declared.result.Result.the-variants.{Ok, Err}
-use Rattle·common.specs.Score.{isScore}
-use Rattle·charts·specs.declared.chart.Size.{Size}
-use Rattle·charts·specs.declared.fault.ChartFault.{ChartFault}
-use Rattle·charts·specs.declared.fault.ChartFault.the-variants.{NoSize, OutOfRange}
-use Rattle·charts·specs.Scores.{checked}
+use Rattle.std.specs.Prelude.{ℕ, cond, ◌&&◌, List, ℤ, Some, None, Ok, Err, Option, Result, nat_lt}
+use Rattle.common.specs.Score.{is_score}
+use Rattle.charts.specs.declared.chart.Size.{Size}
+use Rattle.charts.specs.declared.fault.ChartFault.{ChartFault}
+use Rattle.charts.specs.declared.fault.ChartFault.TheVariants.{NoSize, OutOfRange}
+use Rattle.charts.specs.Scores.{checked}
 
-abbrev pub sizeOf : Option ℕ → ℕ → ℕ → Option Size
-sizeOf None start leaves = None
-sizeOf (Some n) start leaves = Some (record { states = n; start = start; leaves = leaves })
+abbrev pub size_of : Option ℕ → ℕ → Option Size
+size_of None leaves = None
+size_of (Some n) leaves = Some (record { states = n; leaves = leaves })
+
+abbrev pub started : Option ℕ → ℕ → Result ℕ ChartFault
+started None start = Err NoSize
+started (Some n) start = Ok start
 
 abbrev pub stepped : Option ℕ → (ℕ → ℤ → ℕ) → (ℕ → ℤ → ℕ) → ℕ → ℤ → Result (ℕ × ℕ) ChartFault
 stepped None next word s x = Err NoSize
-stepped (Some n) next word s x = cond (ltb s n && isScore x) (Ok (next s x, word s x)) (Err OutOfRange)
+stepped (Some n) next word s x = cond (nat_lt s n && is_score x) (Ok (next s x, word s x)) (Err OutOfRange)
 
 abbrev pub taken : Result (Unit {0}) ChartFault → ℕ → Result ℕ ChartFault
 taken (Ok ok) word = Ok word

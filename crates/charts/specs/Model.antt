@@ -1,19 +1,14 @@
 -- What a chart is, and the laws that every chart keeps.
---   Model     a chart by its meaning: size, start state, leaves, a step's next state and word, the look-back word of a list
---   run       the state after stepping through a list of scores, the oldest first
---   Quiet     the look-back word of every beginning of a list, and of the whole, is 0
---   Lawful    what every chart shows: Sized where it has a size, and 0 for the empty list
---   Sized     start and next states are below the size; words, looked back too, are below 2 to the leaves;
---             after a word other than 0 the next state is the start; stepping a list from the start ends with
---             its look-back word, if every shorter beginning has look-back word 0
-use mathlib.Core.Path.{_≡_}
-use mathlib.Core.List.{List, [], _∷_, _++_}
-use Prim.Native.Nat.{ℕ, _<_, _≤_, _^_}
-use lib.IntN.{ℤ}
-use Rattle·std.specs.declared.option.Option.{Option}
-use Rattle·std.specs.declared.option.Option.the-variants.{Some}
-use Rattle·std.specs.shelf.Lists.{All}
-use Rattle·common.specs.Score.{Score}
+--   Model    a chart by its meaning: size, start state, leaves, a step's next state and word, the look-back word of a list
+--   run      the state after stepping through a list of scores, the oldest first
+--   Quiet    the look-back word of every beginning of a list, and of the whole, is 0
+--   Lawful   what every chart shows: Sized where it has a size, and 0 for the empty list
+--   Sized    start and next states are below the size; words, looked back too, are below 2 to the leaves;
+--            after a word other than 0 the next state is the start; stepping a list from the start ends with
+--            its look-back word, if every shorter beginning has look-back word 0
+use Rattle.std.specs.Prelude.{◌≡◌, ℕ, ◌^◌, ◌<◌, ◌≤◌, List, [], ◌∷◌, ◌++◌, ℤ, Some, Option, ◌≢◌}
+use Rattle.std.specs.List.{AllByRecursion}
+use Rattle.common.specs.Score.{Score}
 
 pub record Model : Type 0 where
   pub size : Option ℕ
@@ -32,14 +27,14 @@ Quiet look xs = (front back : List ℤ) → front ++ back ≡ xs → look front 
 
 pub record Sized (m : Model) (n : ℕ) : Type 0 where
   pub few : n ≤ 65536
-  pub narrow : m .leaves ≤ 16
-  pub start-below : m .start < n
-  pub next-below : (s : ℕ) (x : ℤ) → s < n → Score x → m .next s x < n
-  pub word-below : (s : ℕ) (x : ℤ) → s < n → Score x → m .word s x < 2 ^ m .leaves
-  pub look-below : (xs : List ℤ) → All Score xs → m .look xs < 2 ^ m .leaves
-  pub restarts : (s : ℕ) (x : ℤ) → s < n → Score x → (m .word s x ≡ 0 → ⊥) → m .next s x ≡ m .start
-  pub agrees : (before : List ℤ) (last : ℤ) → All Score before → Score last → Quiet (m .look) before → m .word (run (m .next) (m .start) before) last ≡ m .look (before ++ last ∷ [])
+  pub narrow : m.leaves ≤ 16
+  pub start_below : m.start < n
+  pub next_below : (s : ℕ) (x : ℤ) → s < n → Score x → m.next s x < n
+  pub word_below : (s : ℕ) (x : ℤ) → s < n → Score x → m.word s x < 2 ^ m.leaves
+  pub look_below : (xs : List ℤ) → AllByRecursion Score xs → m.look xs < 2 ^ m.leaves
+  pub restarts : (s : ℕ) (x : ℤ) → s < n → Score x → (m.word s x ≢ 0) → m.next s x ≡ m.start
+  pub agrees : (before : List ℤ) (last : ℤ) → AllByRecursion Score before → Score last → Quiet m.look before → m.word (run m.next m.start before) last ≡ m.look (before ++ last ∷ [])
 
 pub record Lawful (m : Model) : Type 0 where
-  pub look-none : m .look [] ≡ 0
-  pub sized : (n : ℕ) → m .size ≡ Some n → Sized m n
+  pub look_none : m.look [] ≡ 0
+  pub sized : (n : ℕ) → m.size ≡ Some n → Sized m n

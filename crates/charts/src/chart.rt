@@ -1,20 +1,16 @@
 // The trait of control charts. A chart means its ghost members; whatever is built on charts is proved against them alone.
-ghost use Prim.Native.Nat.{ℕ};
-ghost use lib.IntN.{ℤ};
-ghost use mathlib.Core.List.{List};
-ghost use mathlib.Core.Path.{_≡_};
-ghost use Rattle·std.specs.declared.option.Option.{Option};
-ghost use Rattle·charts·specs.Answers.{sizeOf, stepped, looked};
-ghost use Rattle·charts·specs.Model.{Lawful};
-ghost use Rattle·charts·specs.Scores.{listed};
+ghost use Rattle.std.specs.Prelude.{◌≡◌, ℕ, List, ℤ, Option};
+ghost use Rattle.charts.specs.Answers.{size_of, started, stepped, looked};
+ghost use Rattle.charts.specs.Model.{Lawful};
+ghost use Rattle.charts.specs.Scores.{listed};
+
 use crate::fault::ChartFault;
 use crate::scores::Scores;
 
-// How many states a chart has, which of them is the start, and how many leaves it has.
+// How many states a chart has, and how many leaves.
 #[derive(Clone, Copy)]
 pub struct Size {
     pub states: u32,
-    pub start: u32,
     pub leaves: u32,
 }
 
@@ -36,16 +32,20 @@ pub trait Chart {
     // the alarm word that a whole list of scores, the oldest first, has by itself
     ghost look: { Self → List ℤ → ℕ };
 
-    law lawful: { (c : Self) → Lawful (record { size = size c; start = start c; leaves = leaves c; next = next c; word = word c; look = look c }) };
-
     fn size(&self) -> Option<Size>
-        ensures { λ r. ⌜ r ≡ sizeOf (size (now (self .entry))) (start (now (self .entry))) (leaves (now (self .entry))) ⌝ };
+        ensures { result ≡ size_of (size self.now) (leaves self.now) };
+
+    // The start state, or refusal 5.
+    fn start(&self) -> Result<u32, ChartFault>
+        ensures { result ≡ started (size self.now) (start self.now) };
 
     // The next state and the alarm word, or refusal 5 or 6.
     fn step(&self, state: u32, score: i16) -> Result<(u32, u16), ChartFault>
-        ensures { λ r. ⌜ r ≡ stepped (size (now (self .entry))) (next (now (self .entry))) (word (now (self .entry))) state score ⌝ };
+        ensures { result ≡ stepped (size self.now) (next self.now) (word self.now) state score };
 
     // The look-back word, or refusal 5, 15 or 6.
     fn look(&self, scores: Scores<'_>) -> Result<u16, ChartFault>
-        ensures { λ r. ⌜ r ≡ looked (size (now (self .entry))) (look (now (self .entry))) (listed (scores .entry)) ⌝ };
+        ensures { result ≡ looked (size self.now) (look self.now) (listed scores.entry) };
+
+    ghost lawful: { (c : Self) → Lawful (record { size = size c; start = start c; leaves = leaves c; next = next c; word = word c; look = look c }) };
 }

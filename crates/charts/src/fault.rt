@@ -1,8 +1,7 @@
 // Why a chart declines.
-ghost use Rattle·charts·specs.Faults.{chartRefusal, settingRefusal};
-use common::Carried;
-use common::Fault;
-use common::Refusal;
+ghost use Rattle.charts.specs.Faults.{chart_refusal, setting_refusal};
+
+use common::{Carried, Fault, Refusal};
 
 // Why a step or a look-back is declined.
 #[derive(Clone, Copy, Debug, PartialEq)]
@@ -15,8 +14,8 @@ pub enum ChartFault {
     TooLong,
 }
 
-pub impl Fault for ChartFault as ChartFaultRefusal {
-    ghost refusal = { chartRefusal };
+impl Fault for ChartFault {
+    ghost refusal = { chart_refusal };
 
     fn refusal(&self) -> Refusal {
         let number = match self {
@@ -31,26 +30,22 @@ pub impl Fault for ChartFault as ChartFaultRefusal {
     }
 }
 
-// Why a leaf cannot be made, or be set on a sheet.
+// Why a leaf cannot be made.
 #[derive(Clone, Copy, Debug, PartialEq)]
 pub enum SettingFault {
     // a setting out of its range
     OutOfRange,
-    // a ninth leaf
-    NinthLeaf,
 }
 
-pub impl Fault for SettingFault as SettingFaultRefusal {
-    ghost refusal = { settingRefusal };
+impl Fault for SettingFault {
+    ghost refusal = { setting_refusal };
 
     fn refusal(&self) -> Refusal {
-        let number = match self {
-            SettingFault::OutOfRange => 4,
-            SettingFault::NinthLeaf => 15,
-        };
-        Refusal {
-            number,
-            carried: Carried::Nothing,
+        match self {
+            SettingFault::OutOfRange => Refusal {
+                number: 4,
+                carried: Carried::Nothing,
+            },
         }
     }
 }

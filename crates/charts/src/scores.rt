@@ -1,44 +1,30 @@
-// The scores that a look-back reads, the oldest first. A look-back copies none of them and changes none; a view that is
-// turned reads each with the opposite sign.
-ghost use lib.IntN.{negℤ};
-ghost use lib.ListN.{length};
-ghost use mathlib.Core.Bool.{cond};
-ghost use mathlib.Core.Path.{_≡_};
-ghost use Rattle·charts·specs.Scores.{opposite, areScores, listed, checked, LastOf};
+// The scores that a look-back reads, the oldest first. A look-back copies none of them.
+ghost use Rattle.std.specs.Prelude.{◌≡◌};
+ghost use Rattle.charts.specs.Scores.{are_scores, listed, checked, latest, LastOf};
+
 use crate::fault::ChartFault;
 use common::is_score;
 
 #[derive(Clone, Copy)]
 pub struct Scores<'a> {
     list: &'a [i16],
-    turned: bool,
 }
 
 impl<'a> Scores<'a> {
     pub fn new(list: &'a [i16]) -> Scores<'a>
-        ensures { λ r. ⌜ listed r ≡ now (list .entry) ⌝ }
+        ensures { listed result ≡ list.now }
     {
-        Scores {
-            list,
-            turned: false,
-        }
-    }
-
-    // The same scores, each with the opposite sign.
-    pub fn turned(self) -> Scores<'a>
-        ensures { λ r. ⌜ listed r ≡ opposite (listed (self .entry)) ⌝ }
-    {
-        flip(self)
+        Scores { list }
     }
 
     // Whether a look-back takes the list: refusal 15 where it is too long, then 6 where a number of it is no score.
     pub fn check(self) -> Result<(), ChartFault>
-        ensures { λ r. ⌜ r ≡ checked (listed (self .entry)) ⌝ }
+        ensures { result ≡ checked (listed self.entry) }
     {
-        if len(self) > 4096 {
+        if self.list.len() > 4096 {
             return Err(ChartFault::TooLong);
         }
-        if are_scores(self) {
+        if are_scores(self.list) {
             Ok(())
         } else {
             Err(ChartFault::OutOfRange)
@@ -46,37 +32,24 @@ impl<'a> Scores<'a> {
     }
 
     // The latest score, and the scores before it.
-    pub fn split_last(self) -> Option<(i32, Scores<'a>)>
-        ensures { λ r. ⌜ LastOf listed (listed (self .entry)) r ⌝ }
+    pub fn split_last(self) -> Option<(i16, Scores<'a>)>
+        ensures { LastOf listed (listed self.entry) result }
     {
-        split_end(self)
+        match split_end(self.list) {
+            Some((last, before)) => Some((last, Scores { list: before })),
+            None => None,
+        }
+    }
+
+    pub fn latest(self) -> Option<i16>
+        ensures { result ≡ latest (listed self.entry) }
+    {
+        last_of(self.list)
     }
 }
 
-fn flip(view: Scores<'_>) -> Scores<'_>
-    ensures { λ r. ⌜ listed r ≡ opposite (listed (view .entry)) ⌝ }
-{
-    Scores {
-        list: view.list,
-        turned: !view.turned,
-    }
-}
-
-fn len(view: Scores<'_>) -> usize
-    ensures { λ r. ⌜ r ≡ length (listed (view .entry)) ⌝ }
-{
-    view.list.len()
-}
-
-// A number is a score where its opposite is one, so the view's sign is no matter.
-fn are_scores(view: Scores<'_>) -> bool
-    ensures { λ r. ⌜ r ≡ areScores (listed (view .entry)) ⌝ }
-{
-    all_scores(view.list)
-}
-
-fn all_scores(list: &[i16]) -> bool
-    ensures { λ r. ⌜ r ≡ areScores (now (list .entry)) ⌝ }
+fn are_scores(list: &[i16]) -> bool
+    ensures { result ≡ are_scores list.now }
 {
     for x in list {
         if !is_score(*x as i32) {
@@ -86,23 +59,20 @@ fn all_scores(list: &[i16]) -> bool
     true
 }
 
-fn split_end(view: Scores<'_>) -> Option<(i32, Scores<'_>)>
-    ensures { λ r. ⌜ LastOf listed (listed (view .entry)) r ⌝ }
+fn split_end(list: &[i16]) -> Option<(i16, &[i16])>
+    ensures { LastOf (λ x. x.now) list.now result }
 {
-    match view.list {
+    match list {
         [] => None,
-        [before @ .., last] => Some((
-            signed(*last, view.turned),
-            Scores {
-                list: before,
-                turned: view.turned,
-            },
-        )),
+        [before @ .., last] => Some((*last, before)),
     }
 }
 
-fn signed(x: i16, turned: bool) -> i32
-    ensures { λ r. ⌜ r ≡ cond turned (negℤ x) x ⌝ }
+fn last_of(list: &[i16]) -> Option<i16>
+    ensures { result ≡ latest list.now }
 {
-    if turned { -(x as i32) } else { x as i32 }
+    match split_end(list) {
+        Some((last, _)) => Some(last),
+        None => None,
+    }
 }

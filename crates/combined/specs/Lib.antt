@@ -1,2 +1,2 @@
-pub mod Beside
 pub mod Pair
+pub mod PairLaws

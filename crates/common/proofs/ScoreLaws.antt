@@ -1,11 +1,7 @@
 -- What the test for a score tells.
-use mathlib.Core.Path.{_≡_}
-use mathlib.Core.Bool.{true}
-use native.Mathlib.Omega.{arith}
-use lib.IntN.{ℤ, pos, negsuc}
-use lib.Signed.{_≤ℤ_}
-use Rattle·std.proofs.shelf.Signed.{ints}
-use Rattle·common·specs.Score.{isScore}
+use Rattle.std.proofs.Common.{◌≡◌, true, ℤ, pos, negsuc, ◌≤ℤ◌, arith}
+use Rattle.std.proofs.lemmas.Int.{ints}
+use Rattle.common.specs.Score.{is_score}
 
-pub score-within : (x : ℤ) → isScore x ≡ true → (negsuc 999 ≤ℤ x) × (x ≤ℤ pos 1000)
-score-within x q = (grind (arith, ints), grind (arith, ints))
+pub score_within : (x : ℤ) → is_score x ≡ true → (negsuc 999 ≤ℤ x) × (x ≤ℤ pos 1000)
+score_within x q = (grind (arith, ints), grind (arith, ints))

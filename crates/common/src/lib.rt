@@ -1,12 +1,8 @@
 // What the rooms of the house share: what a score is, and what a refusal says.
+#![tactic(auto)]
+
 mod refusal;
 mod score;
 
-pub use refusal::Carried;
-pub use refusal::CarriedDebug;
-pub use refusal::CarriedPartialEq;
-pub use refusal::Fault;
-pub use refusal::Refusal;
-pub use refusal::RefusalDebug;
-pub use refusal::RefusalPartialEq;
+pub use refusal::{Carried, Fault, Refusal};
 pub use score::is_score;

@@ -1,6 +1,6 @@
 // A refusal is a number, by docs/REFUSALS.md, and what goes with it.
-ghost use mathlib.Core.Path.{_≡_};
-ghost use Rattle·common·specs.declared.refusal.Refusal.{Refusal};
+ghost use Rattle.std.specs.Prelude.{◌≡◌};
+ghost use Rattle.common.specs.declared.refusal.Refusal.{Refusal};
 
 #[derive(Clone, Copy, Debug, PartialEq)]
 pub struct Refusal {
@@ -25,5 +25,5 @@ pub trait Fault {
     ghost refusal: { Self → Refusal };
 
     fn refusal(&self) -> Refusal
-        ensures { λ r. ⌜ r ≡ refusal (now (self .entry)) ⌝ };
+        ensures { result ≡ refusal self.now };
 }

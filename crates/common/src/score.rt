@@ -1,9 +1,9 @@
 // A score is a whole number from -1,000 to 1,000.
-ghost use mathlib.Core.Path.{_≡_};
-ghost use Rattle·common·specs.Score.{isScore};
+ghost use Rattle.std.specs.Prelude.{◌≡◌};
+ghost use Rattle.common.specs.Score.{is_score};
 
 pub fn is_score(x: i32) -> bool
-    ensures { λ r. ⌜ r ≡ isScore x ⌝ }
+    ensures { result ≡ is_score x }
 {
     -1000 <= x && x <= 1000
 }

@@ -1,7 +1,7 @@
 // Why a program declines, in one line.
-use std::alloc::AllocError;
-use std::alloc::Global;
-use std::error::AnyError;
+#![tactic(auto)]
+
+use std::alloc::{AllocError, Global};
 
 // What stands at this place, and what is to stand there.
 pub fn unfit(
@@ -10,8 +10,8 @@ pub fn unfit(
     place: usize,
     what: &str,
     found: &str,
-) -> Result<AnyError, AllocError> {
-    Ok(format!(heap, "{at} {place} is to be {what}, and is '{found}'")?.into())
+) -> Result<anyhow::Error, AllocError> {
+    Ok(anyhow::Error::msg(format!(in heap; "{at} {place} is to be {what}, and is '{found}'")?))
 }
 
 // The number of a refusal, and the rule that was broken at this place.
@@ -21,6 +21,6 @@ pub fn refused(
     at: &str,
     place: usize,
     rule: &str,
-) -> Result<AnyError, AllocError> {
-    Ok(format!(heap, "refusal {number} at {at} {place}: {rule}")?.into())
+) -> Result<anyhow::Error, AllocError> {
+    Ok(anyhow::Error::msg(format!(in heap; "refusal {number} at {at} {place}: {rule}")?))
 }

@@ -1,2 +1,3 @@
 pub mod Gauges
 pub mod Settings
+pub mod GaugesLaws

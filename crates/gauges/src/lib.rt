@@ -1,14 +1,13 @@
 // Gauges: a reading is scored by where it stands among four limits that rise.
-ghost use mathlib.Core.Bool.{true};
-ghost use mathlib.Core.Path.{_≡_};
-ghost use Rattle·common.specs.Made.{Made};
-ghost use Rattle·gauges·specs.Gauges.{gaugeScore};
-ghost use Rattle·gauges·specs.Settings.{gaugesFault, inOrder, isRising, withinRange};
-use scoring::Source;
-use scoring::SourceFault;
-use scoring::SourceSettingFault;
-use scoring::admit;
-use scoring::is_in_range;
+#![tactic(auto)]
+
+ghost use Rattle.std.specs.Prelude.{◌≡◌, true};
+ghost use Rattle.common.specs.Made.{Made};
+ghost use Rattle.gauges.specs.Gauges.{gauge_score};
+ghost use Rattle.gauges.specs.Settings.{gauges_fault, in_order, is_rising, within_range};
+ghost use Rattle.gauges.specs.GaugesLaws.{gauges_within};
+
+use scoring::{Source, SourceFault, SourceSettingFault, admit, is_in_range};
 
 // The limits, from the lowest, and the scores: a next to the middle, b at the ends.
 #[derive(Clone, Copy)]
@@ -19,17 +18,17 @@ pub struct Gauges {
     s: f64,
     a: i16,
     b: i16,
-    ghost range: { withinRange p q r s ≡ true },
-    ghost order: { isRising p q r s ≡ true },
-    ghost scores: { inOrder a b ≡ true },
+    ghost range: { within_range p q r s ≡ true },
+    ghost order: { is_rising p q r s ≡ true },
+    ghost scores: { in_order a b ≡ true },
 }
 
 impl Gauges {
     // Refusal 1 where a limit is out of its range, then 2 where the limits do not rise, then 3 where the scores are not in
     // order.
     pub fn new(p: f64, q: f64, r: f64, s: f64, a: i16, b: i16) -> Result<Gauges, SourceSettingFault>
-        ensures { λ made. ⌜ Made (gaugesFault p q r s a b)
-            (λ g. (g .p ≡ p) × (g .q ≡ q) × (g .r ≡ r) × (g .s ≡ s) × (g .a ≡ a) × (g .b ≡ b)) made ⌝ }
+        ensures { Made (gauges_fault p q r s a b)
+            (λ g. (g.p ≡ p) × (g.q ≡ q) × (g.r ≡ r) × (g.s ≡ s) × (g.a ≡ a) × (g.b ≡ b)) result }
     {
         if !(is_in_range(p) && is_in_range(q) && is_in_range(r) && is_in_range(s)) {
             return Err(SourceSettingFault::OutOfRange);
@@ -44,10 +43,12 @@ impl Gauges {
     }
 }
 
-pub impl Source for Gauges as GaugesSource {
+impl Source for Gauges {
     type Reading = f64;
 
-    ghost score = { λ g. gaugeScore (g .p) (g .q) (g .r) (g .s) (g .a) (g .b) };
+    ghost score = { λ g. gauge_score g.p g.q g.r g.s g.a g.b };
+
+    ghost within = { λ g reading x e. gauges_within g.p g.q g.r g.s g.a g.b g.scores reading x e };
 
     // A reading on a limit is in the outer of its two zones.
     fn score(&self, reading: f64) -> Result<i16, SourceFault> {

@@ -1,47 +1,39 @@
-// lookback: which leaves of a sheet alarm on the last morning of a column of readings.
-use arguments::ARGUMENTS_HELP;
-use arguments::request_of;
-use console::LOOKBACK_EXAMPLE;
-use console::LOOKBACK_HELP;
-use console::report_of;
-use std::env;
-use std::error::AnyError;
-use std::io::Read;
+// lookback: whether Page's rule or the Shewhart limit alarms on the last morning of a column of counts, and which of them.
+#![tactic(auto)]
 
-// The most bytes of input: far more than 4,096 lines with a reading each.
+use anyhow::anyhow;
+use arguments::request_of;
+use console::{LOOKBACK_HELP, report_of};
+use std::env;
+use std::io::Read;
+use std::process::ExitCode;
+
+// The most bytes of input: far more than 4,096 lines with a count each.
 const MOST: u64 = 1048576;
 
-fn main(rt: LibcRuntime) -> Result<(), AnyError> {
+fn main(rt: HostRuntime) -> anyhow::Result<ExitCode> {
     match run(&rt) {
-        Ok(()) => Ok(()),
+        Ok(()) => Ok(ExitCode::SUCCESS),
         Err(error) => {
-            eprintln!(rt, "lookback: {error} (lookback --help says more)")?;
-            Err(error)
+            eprintln!(rt; "lookback: {error} (lookback --help says more)")?;
+            Ok(ExitCode::FAILURE)
         }
     }
 }
 
-fn run(rt: &LibcRuntime) -> Result<(), AnyError> {
+fn run(rt: &HostRuntime) -> anyhow::Result<()> {
     let heap = rt.alloc();
     let words: Vec<String> = env::args(rt)?.skip(1).collect(heap)?;
     if asks_help(words.as_slice()) {
-        rt.print(LOOKBACK_HELP)?;
-        rt.print(ARGUMENTS_HELP)?;
-        return Ok(rt.print(LOOKBACK_EXAMPLE)?);
+        return Ok(rt.print(LOOKBACK_HELP)?);
     }
     let request = request_of(heap, words.as_slice())?;
     let mut input = Vec::new(heap);
     rt.stdin().take(MOST + 1).read_to_end(&mut input)?;
     if input.len() as u64 > MOST {
-        return Err("the input is longer than a megabyte".into());
+        return Err(anyhow!("the input is longer than a megabyte"));
     }
-    let text = report_of(
-        heap,
-        &request.source,
-        &request.sheet,
-        request.leaves.as_slice(),
-        input.as_slice(),
-    )?;
+    let text = report_of(heap, &request.source, &request.chart, input.as_slice())?;
     Ok(rt.print(text)?)
 }
 

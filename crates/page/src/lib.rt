@@ -1,22 +1,17 @@
 // Page's one-sided cumulative sum (Biometrika 1954), with a headstart as Lucas and Crosier gave it. It alarms when the
 // sum reaches h. Its look-back is Barnard's V-mask, with the headstart added to the sum of the whole list alone.
-ghost use Prim.Native.Nat.{_<_, _≤_};
-ghost use lib.IntN.{pos, negsuc, _+ℤ_, _-ℤ_};
-ghost use lib.Signed.{leZ, _≤ℤ_};
-ghost use mathlib.Core.Bool.{true, cond};
-ghost use mathlib.Core.Path.{_≡_};
-ghost use Rattle·std.specs.declared.result.Result.the-variants.{Ok};
-ghost use Rattle·common.specs.Made.{Made};
-ghost use Rattle·common.specs.Score.{isScore};
-ghost use Rattle·charts.specs.Scores.{listed, checked};
-ghost use Rattle·charts.specs.Words.{bit};
-ghost use Rattle·page·specs.Page.{masked, floored, page};
-ghost use Rattle·page·specs.Settings.{pageFault};
-use charts::Chart;
-use charts::ChartFault;
-use charts::Scores;
-use charts::SettingFault;
-use charts::Size;
+#![tactic(auto)]
+
+ghost use Rattle.std.specs.Prelude.{◌≡◌, ◌<◌, ◌≤◌, true, pos, negsuc, ◌+ℤ◌, ◌-ℤ◌, ◌≤ℤ◌, if◌then◌else◌, Ok, int_le};
+ghost use Rattle.common.specs.Made.{Made};
+ghost use Rattle.common.specs.Score.{is_score};
+ghost use Rattle.charts.specs.Scores.{listed, checked};
+ghost use Rattle.charts.specs.Words.{bit};
+ghost use Rattle.page.specs.Page.{masked, floored, page};
+ghost use Rattle.page.specs.Settings.{page_fault};
+ghost use Rattle.page.specs.PageLaws.{page_lawful};
+
+use charts::{Chart, ChartFault, Scores, SettingFault, Size};
 use common::is_score;
 
 #[derive(Clone, Copy)]
@@ -25,13 +20,13 @@ pub struct Page {
     k: i16,
     s0: u16,
     ghost few: { h ≤ 4096 },
-    ghost reference: { isScore k ≡ true },
+    ghost reference: { is_score k ≡ true },
     ghost ahead: { s0 < h },
 }
 
 impl Page {
     pub fn new(h: u16, k: i16, s0: u16) -> Result<Page, SettingFault>
-        ensures { λ r. ⌜ Made (pageFault h k s0) (λ p. (p .h ≡ h) × (p .k ≡ k) × (p .s0 ≡ s0)) r ⌝ }
+        ensures { Made (page_fault h k s0) (λ p. (p.h ≡ h) × (p.k ≡ k) × (p.s0 ≡ s0)) result }
     {
         if 1 <= h && h <= 4096 && is_score(k as i32) && s0 < h {
             Ok(Page { h, k, s0 })
@@ -41,25 +36,25 @@ impl Page {
     }
 
     // What a score makes of a sum. 4,096 scores change a sum by at most 2,000 each.
-    fn raise(&self, sum: i32, score: i32) -> i32
-        requires low { ⌜ negsuc 8191999 ≤ℤ sum ⌝ }
-        requires high { ⌜ sum ≤ℤ pos 8192000 ⌝ }
-        requires score { ⌜ isScore score ≡ true ⌝ }
-        ensures { λ r. ⌜ r ≡ sum +ℤ (score -ℤ now (self .entry) .k) ⌝ }
+    fn raise(&self, sum: i32, score: i16) -> i32
+        requires low { negsuc 8191999 ≤ℤ sum }
+        requires high { sum ≤ℤ pos 8192000 }
+        requires score { is_score score ≡ true }
+        ensures { result ≡ sum +ℤ (score -ℤ self.now.k) }
     {
-        sum + (score - self.k as i32)
+        sum + (score as i32 - self.k as i32)
     }
 
     fn alarms(&self, sum: i32) -> bool
-        ensures { λ r. ⌜ r ≡ leZ (pos (now (self .entry) .h)) sum ⌝ }
+        ensures { result ≡ int_le (pos self.now.h) sum }
     {
         sum >= self.h as i32
     }
 
     // The next state and the word, by the sum.
     fn settle(&self, sum: i32) -> (u32, u16)
-        ensures next { λ r. ⌜ r .0 ≡ cond (leZ (pos (now (self .entry) .h)) sum) (now (self .entry) .s0) (floored sum) ⌝ }
-        ensures word { λ r. ⌜ r .1 ≡ bit (leZ (pos (now (self .entry) .h)) sum) ⌝ }
+        ensures next { result.0 ≡ (if int_le (pos self.now.h) sum then self.now.s0 else floored sum) }
+        ensures word { result.1 ≡ bit (int_le (pos self.now.h) sum) }
     {
         if self.alarms(sum) {
             (self.s0 as u32, 1)
@@ -72,8 +67,8 @@ impl Page {
 
     // Whether the V-mask alarms: sums over trailing parts, the shortest first.
     fn mask(&self, scores: Scores<'_>) -> bool
-        requires { ⌜ checked (listed scores) ≡ Ok tt ⌝ }
-        ensures { λ r. ⌜ r ≡ masked (now (self .entry) .h) (now (self .entry) .k) (now (self .entry) .s0) (listed (scores .entry)) ⌝ }
+        requires { checked (listed scores) ≡ Ok tt }
+        ensures { result ≡ masked self.now.h self.now.k self.now.s0 (listed scores.entry) }
     {
         let mut earlier = scores;
         let mut sum = 0;
@@ -88,30 +83,35 @@ impl Page {
     }
 }
 
-pub impl Chart for Page as PageChart {
-    ghost size = { λ p. page (p .h) (p .k) (p .s0) .size };
+impl Chart for Page {
+    ghost size = { λ p. (page p.h p.k p.s0).size };
 
-    ghost start = { λ p. page (p .h) (p .k) (p .s0) .start };
+    ghost start = { λ p. (page p.h p.k p.s0).start };
 
-    ghost leaves = { λ p. page (p .h) (p .k) (p .s0) .leaves };
+    ghost leaves = { λ p. (page p.h p.k p.s0).leaves };
 
-    ghost next = { λ p. page (p .h) (p .k) (p .s0) .next };
+    ghost next = { λ p. (page p.h p.k p.s0).next };
 
-    ghost word = { λ p. page (p .h) (p .k) (p .s0) .word };
+    ghost word = { λ p. (page p.h p.k p.s0).word };
 
-    ghost look = { λ p. page (p .h) (p .k) (p .s0) .look };
+    ghost look = { λ p. (page p.h p.k p.s0).look };
+
+    ghost lawful = { λ p. page_lawful p.h p.k p.s0 p.few p.ahead };
 
     fn size(&self) -> Option<Size> {
         Some(Size {
             states: self.h as u32,
-            start: self.s0 as u32,
             leaves: 1,
         })
     }
 
+    fn start(&self) -> Result<u32, ChartFault> {
+        Ok(self.s0 as u32)
+    }
+
     fn step(&self, state: u32, score: i16) -> Result<(u32, u16), ChartFault> {
         if state < self.h as u32 && is_score(score as i32) {
-            Ok(self.settle(self.raise(state as i32, score as i32)))
+            Ok(self.settle(self.raise(state as i32, score)))
         } else {
             Err(ChartFault::OutOfRange)
         }

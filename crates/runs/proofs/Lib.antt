@@ -1,3 +1,1 @@
-pub mod Marks
 pub mod RecentLaws
-pub mod RunsLaws

@@ -1,2 +1,4 @@
 pub mod Runs
 pub mod Settings
+pub mod RunsLaws
+pub mod Marks

@@ -1,19 +1,17 @@
 // A runs rule, as the Western Electric rules have several: it alarms when at least t of the last m scores are above y.
 // With fewer than m scores all of them are taken.
-ghost use Prim.Native.Nat.{_-_, _%_, _^_, _<_, _≤_};
-ghost use mathlib.Core.Bool.{true, cond};
-ghost use mathlib.Core.Path.{_≡_};
-ghost use Rattle·common.specs.Made.{Made};
-ghost use Rattle·common.specs.Score.{isScore};
-ghost use Rattle·charts.specs.Scores.{listed};
-ghost use Rattle·charts.specs.Words.{bit};
-ghost use Rattle·runs·specs.Runs.{mark, countIn, lastScores, marked, reached, runs};
-ghost use Rattle·runs·specs.Settings.{runsFault};
-use charts::Chart;
-use charts::ChartFault;
-use charts::Scores;
-use charts::SettingFault;
-use charts::Size;
+#![tactic(auto)]
+
+ghost use Rattle.std.specs.Prelude.{◌≡◌, ◌-◌, ◌%◌, ◌^◌, ◌<◌, ◌≤◌, true, if◌then◌else◌};
+ghost use Rattle.common.specs.Made.{Made};
+ghost use Rattle.common.specs.Score.{is_score};
+ghost use Rattle.charts.specs.Scores.{listed};
+ghost use Rattle.charts.specs.Words.{bit};
+ghost use Rattle.runs.specs.Runs.{mark, count_in, last_scores, marked, reached, runs};
+ghost use Rattle.runs.specs.Settings.{runs_fault};
+ghost use Rattle.runs.specs.RunsLaws.{runs_lawful};
+
+use charts::{Chart, ChartFault, Scores, SettingFault, Size};
 use common::is_score;
 
 // No mark is set.
@@ -27,12 +25,12 @@ pub struct Runs {
     ghost several: { 2 ≤ t },
     ghost within: { t ≤ m },
     ghost few: { m ≤ 8 },
-    ghost level: { isScore y ≡ true },
+    ghost level: { is_score y ≡ true },
 }
 
 impl Runs {
     pub fn new(t: u8, m: u8, y: i16) -> Result<Runs, SettingFault>
-        ensures { λ r. ⌜ Made (runsFault t m y) (λ s. (s .t ≡ t) × (s .m ≡ m) × (s .y ≡ y)) r ⌝ }
+        ensures { Made (runs_fault t m y) (λ s. (s.t ≡ t) × (s.m ≡ m) × (s.y ≡ y)) result }
     {
         if 2 <= t && t <= m && m <= 8 && is_score(y as i32) {
             Ok(Runs { t, m, y })
@@ -43,46 +41,46 @@ impl Runs {
 
     // A state for each way to mark m - 1 scores.
     fn states(&self) -> u32
-        ensures { λ r. ⌜ r ≡ 2 ^ (now (self .entry) .m - 1) ⌝ }
+        ensures { result ≡ 2 ^ (self.now.m - 1) }
     {
         1 << (self.m - 1)
     }
 
     // 1 where a score counts, else 0.
     fn mark(&self, score: i32) -> u32
-        ensures { λ r. ⌜ r ≡ mark (now (self .entry) .y) score ⌝ }
+        ensures { result ≡ mark self.now.y score }
     {
         (score > self.y as i32) as u32
     }
 
     // The marks of the last m scores: those of the state, moved up, and the score's own in the lowest bit.
     fn push(&self, state: u32, score: i32) -> u32
-        requires { ⌜ state < 2 ^ (now self .m - 1) ⌝ }
-        ensures marks { λ r. ⌜ r ≡ marked (now (self .entry) .y) state score ⌝ }
-        ensures few { λ r. ⌜ r < 2 ^ now (self .entry) .m ⌝ }
+        requires { state < 2 ^ (self.now.m - 1) }
+        ensures marks { result ≡ marked self.now.y state score }
+        ensures few { result < 2 ^ self.now.m }
     {
         2 * state + self.mark(score)
     }
 
     fn alarms(&self, marks: u32) -> bool
-        requires { ⌜ marks < 2 ^ now self .m ⌝ }
-        ensures { λ r. ⌜ r ≡ reached (now (self .entry) .t) (now (self .entry) .m) marks ⌝ }
+        requires { marks < 2 ^ self.now.m }
+        ensures { result ≡ reached self.now.t self.now.m marks }
     {
         marks.count_ones() >= self.t as u32
     }
 
     // The marks of the last m - 1 scores.
     fn latest(&self, marks: u32) -> u32
-        ensures { λ r. ⌜ r ≡ marks % 2 ^ (now (self .entry) .m - 1) ⌝ }
+        ensures { result ≡ marks % 2 ^ (self.now.m - 1) }
     {
         marks & (self.states() - 1)
     }
 
     // The next state and the word, by the marks.
     fn settle(&self, marks: u32) -> (u32, u16)
-        requires { ⌜ marks < 2 ^ now self .m ⌝ }
-        ensures next { λ r. ⌜ r .0 ≡ cond (reached (now (self .entry) .t) (now (self .entry) .m) marks) 0 (marks % 2 ^ (now (self .entry) .m - 1)) ⌝ }
-        ensures word { λ r. ⌜ r .1 ≡ bit (reached (now (self .entry) .t) (now (self .entry) .m) marks) ⌝ }
+        requires { marks < 2 ^ self.now.m }
+        ensures next { result.0 ≡ (if reached self.now.t self.now.m marks then 0 else marks % 2 ^ (self.now.m - 1)) }
+        ensures word { result.1 ≡ bit (reached self.now.t self.now.m marks) }
     {
         if self.alarms(marks) {
             (START, 1)
@@ -93,7 +91,7 @@ impl Runs {
 
     // How many of the last m scores count, the latest first.
     fn recent(&self, scores: Scores<'_>) -> u32
-        ensures { λ r. ⌜ r ≡ countIn (now (self .entry) .y) (lastScores (now (self .entry) .m) (listed (scores .entry))) ⌝ }
+        ensures { result ≡ count_in self.now.y (last_scores self.now.m (listed scores.entry)) }
     {
         let mut earlier = scores;
         let mut count = 0;
@@ -101,32 +99,37 @@ impl Runs {
             let Some((score, before)) = earlier.split_last() else {
                 return count;
             };
-            count += self.mark(score);
+            count += self.mark(score as i32);
             earlier = before;
         }
         count
     }
 }
 
-pub impl Chart for Runs as RunsChart {
-    ghost size = { λ r. runs (r .t) (r .m) (r .y) .size };
+impl Chart for Runs {
+    ghost size = { λ r. (runs r.t r.m r.y).size };
 
-    ghost start = { λ r. runs (r .t) (r .m) (r .y) .start };
+    ghost start = { λ r. (runs r.t r.m r.y).start };
 
-    ghost leaves = { λ r. runs (r .t) (r .m) (r .y) .leaves };
+    ghost leaves = { λ r. (runs r.t r.m r.y).leaves };
 
-    ghost next = { λ r. runs (r .t) (r .m) (r .y) .next };
+    ghost next = { λ r. (runs r.t r.m r.y).next };
 
-    ghost word = { λ r. runs (r .t) (r .m) (r .y) .word };
+    ghost word = { λ r. (runs r.t r.m r.y).word };
 
-    ghost look = { λ r. runs (r .t) (r .m) (r .y) .look };
+    ghost look = { λ r. (runs r.t r.m r.y).look };
+
+    ghost lawful = { λ r. runs_lawful r.t r.m r.y r.several r.within r.few };
 
     fn size(&self) -> Option<Size> {
         Some(Size {
             states: self.states(),
-            start: START,
             leaves: 1,
         })
+    }
+
+    fn start(&self) -> Result<u32, ChartFault> {
+        Ok(START)
     }
 
     fn step(&self, state: u32, score: i16) -> Result<(u32, u16), ChartFault> {

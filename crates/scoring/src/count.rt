@@ -1,5 +1,7 @@
 // A count of events, scored by its distance from a centre.
-ghost use Rattle·scoring·specs.Count.{countScore};
+ghost use Rattle.scoring.specs.Count.{count_score};
+ghost use Rattle.std.proofs.Common.{rules};
+
 use crate::fault::SourceFault;
 use crate::source::Source;
 use common::is_score;
@@ -9,10 +11,12 @@ pub struct Count {
     pub centre: u16,
 }
 
-pub impl Source for Count as CountSource {
+impl Source for Count {
     type Reading = u16;
 
-    ghost score = { λ s. countScore (s .centre) };
+    ghost score = { λ s. count_score s.centre };
+
+    ghost within = { Prim.search rules };
 
     fn score(&self, reading: u16) -> Result<i16, SourceFault> {
         let difference = reading as i32 - self.centre as i32;

@@ -1,8 +1,7 @@
 // Why a source declines a reading, and why one cannot be made.
-ghost use Rattle·scoring·specs.Faults.{sourceRefusal, sourceSettingRefusal};
-use common::Carried;
-use common::Fault;
-use common::Refusal;
+ghost use Rattle.scoring.specs.Faults.{source_refusal, source_setting_refusal};
+
+use common::{Carried, Fault, Refusal};
 
 // Why a reading is declined.
 #[derive(Clone, Copy, Debug, PartialEq)]
@@ -18,8 +17,8 @@ pub enum SourceFault {
     OffCount(i32),
 }
 
-pub impl Fault for SourceFault as SourceFaultRefusal {
-    ghost refusal = { sourceRefusal };
+impl Fault for SourceFault {
+    ghost refusal = { source_refusal };
 
     fn refusal(&self) -> Refusal {
         let (number, carried) = match self {
@@ -44,8 +43,8 @@ pub enum SourceSettingFault {
     ScoresOutOfOrder,
 }
 
-pub impl Fault for SourceSettingFault as SourceSettingFaultRefusal {
-    ghost refusal = { sourceSettingRefusal };
+impl Fault for SourceSettingFault {
+    ghost refusal = { source_setting_refusal };
 
     fn refusal(&self) -> Refusal {
         let number = match self {

@@ -1,19 +1,20 @@
 // The range of what is measured: from -1,000,000 to 1,000,000, both ends inside.
-ghost use mathlib.Core.Path.{_≡_};
-ghost use Rattle·scoring·specs.Range.{admitted, inRange};
+ghost use Rattle.std.specs.Prelude.{◌≡◌};
+ghost use Rattle.scoring.specs.Range.{admitted, in_range};
+
 use crate::fault::SourceFault;
 
 const MILLION: f64 = 1_000_000.0;
 
 pub fn is_in_range(x: f64) -> bool
-    ensures { λ r. ⌜ r ≡ inRange x ⌝ }
+    ensures { result ≡ in_range x }
 {
     -MILLION <= x && x <= MILLION
 }
 
 // Whether a measured reading is taken: refusal 10 where it is no number, then 11 below the range, then 12 above it.
 pub fn admit(reading: f64) -> Result<(), SourceFault>
-    ensures { λ r. ⌜ r ≡ admitted reading ⌝ }
+    ensures { result ≡ admitted reading }
 {
     if reading.is_nan() {
         Err(SourceFault::NotANumber)

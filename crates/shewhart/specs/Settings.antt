@@ -1,12 +1,9 @@
 -- What a Shewhart limit can be made of.
---   shewhartFault   refusal 4, unless c is from -1,000 to 1,000
-use mathlib.Core.Bool.{cond}
-use lib.IntN.{ℤ}
-use Rattle·std.specs.declared.option.Option.{Option}
-use Rattle·std.specs.declared.option.Option.the-variants.{Some, None}
-use Rattle·common.specs.Score.{isScore}
-use Rattle·charts.specs.declared.fault.SettingFault.{SettingFault}
-use Rattle·charts.specs.declared.fault.SettingFault.the-variants.{OutOfRange}
+--   shewhart_fault   refusal 4, unless c is from -1,000 to 1,000
+use Rattle.std.specs.Prelude.{cond, ℤ, Some, None, Option}
+use Rattle.common.specs.Score.{is_score}
+use Rattle.charts.specs.declared.fault.SettingFault.{SettingFault}
+use Rattle.charts.specs.declared.fault.SettingFault.TheVariants.{OutOfRange}
 
-abbrev pub shewhartFault : ℤ → Option SettingFault
-shewhartFault c = cond (isScore c) None (Some OutOfRange)
+abbrev pub shewhart_fault : ℤ → Option SettingFault
+shewhart_fault c = cond (is_score c) None (Some OutOfRange)

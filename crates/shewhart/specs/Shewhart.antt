@@ -1,23 +1,18 @@
 -- The Shewhart limit.
---   above         whether there is a score and it is above c
---   latestAbove   whether the latest score of a list is above c
---   shewhart      the chart with limit c, which has one state
-use mathlib.Core.Bool.{Bool, false}
-use mathlib.Core.List.{List}
-use lib.IntN.{ℤ}
-use lib.Signed.{ltZ}
-use Rattle·std.specs.declared.option.Option.{Option}
-use Rattle·std.specs.declared.option.Option.the-variants.{Some, None}
-use Rattle·charts.specs.Model.{Model}
-use Rattle·charts.specs.Scores.{latest}
-use Rattle·charts.specs.Words.{bit}
+--   above          whether there is a score and it is above c
+--   latest_above   whether the latest score of a list is above c
+--   shewhart       the chart with limit c, which has one state
+use Rattle.std.specs.Prelude.{Bool, false, List, ℤ, Some, None, Option, int_lt}
+use Rattle.charts.specs.Model.{Model}
+use Rattle.charts.specs.Scores.{latest}
+use Rattle.charts.specs.Words.{bit}
 
 abbrev pub above : ℤ → Option ℤ → Bool
 above c None = false
-above c (Some x) = ltZ c x
+above c (Some x) = int_lt c x
 
-abbrev pub latestAbove : ℤ → List ℤ → Bool
-latestAbove c xs = above c (latest xs)
+abbrev pub latest_above : ℤ → List ℤ → Bool
+latest_above c xs = above c (latest xs)
 
 abbrev pub shewhart : ℤ → Model
 shewhart c = record {
@@ -25,6 +20,6 @@ shewhart c = record {
   start = 0;
   leaves = 1;
   next = λ s x. 0;
-  word = λ s x. bit (ltZ c x);
-  look = λ xs. bit (latestAbove c xs);
+  word = λ s x. bit (int_lt c x);
+  look = λ xs. bit (latest_above c xs);
 }

@@ -1,16 +1,13 @@
 // Worked figures of the measured sources, around each limit and at every kind of float.
+#![tactic(auto)]
+
 #[cfg(test)]
 mod tests {
     use gauges::Gauges;
-    use gauges::GaugesSource;
     use measure::Measure;
-    use measure::MeasureSource;
-    use scoring::Source;
-    use scoring::SourceFault;
-    use scoring::SourceFaultDebug;
-    use scoring::SourceFaultPartialEq;
-    use scoring::SourceSettingFaultDebug;
-    use std::test::*;
+    use scoring::{Source, SourceFault};
+    use std::process::Abort;
+    use std::test::Fail;
 
     // A reading, and what becomes of it.
     struct Scored {
@@ -18,17 +15,17 @@ mod tests {
         answer: Result<i16, SourceFault>,
     }
 
-    fn check_scores<S: Source<Reading = f64>>(source: &S, cases: &[Scored]) -> Result<(), Fail> {
+    fn check_scores<S: Source<Reading = f64>>(rt: &impl Abort, source: &S, cases: &[Scored]) {
         for case in cases {
-            check_eq(source.score(case.reading), case.answer)?;
+            assert_eq!(rt; source.score(case.reading), case.answer);
         }
-        Ok(())
     }
 
     #[test]
-    fn gauges() -> Result<(), Fail> {
+    fn gauges(rt: HostRuntime) -> Result<(), Fail> {
         let source = Gauges::new(-3.0, -1.0, 1.0, 3.0, 1, 2)?;
         check_scores(
+            &rt,
             &source,
             &[
                 Scored {
@@ -104,13 +101,15 @@ mod tests {
                     answer: Err(SourceFault::NotANumber),
                 },
             ],
-        )
+        );
+        Ok(())
     }
 
     #[test]
-    fn measure() -> Result<(), Fail> {
+    fn measure(rt: HostRuntime) -> Result<(), Fail> {
         let source = Measure::new(1.5, 0.25)?;
         check_scores(
+            &rt,
             &source,
             &[
                 // a half goes away from zero
@@ -167,6 +166,7 @@ mod tests {
                     answer: Err(SourceFault::NotANumber),
                 },
             ],
-        )
+        );
+        Ok(())
     }
 }

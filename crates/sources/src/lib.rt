@@ -1,4 +1,6 @@
 // The three sources as one type, for programs that learn only when they run which one it is.
+#![tactic(auto)]
+
 use gauges::Gauges;
 use measure::Measure;
 use scoring::Count;

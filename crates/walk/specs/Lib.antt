@@ -1,2 +1,3 @@
 pub mod Settings
 pub mod Walk
+pub mod WalkLaws

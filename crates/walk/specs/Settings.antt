@@ -1,12 +1,8 @@
 -- What a random walk can be made of.
---   walkFault   refusal 4, unless h is from 1 to 2,048
-use mathlib.Core.Bool.{cond, _&&_}
-use Prim.Native.Nat.{ℕ}
-use lib.Dec.{leb}
-use Rattle·std.specs.declared.option.Option.{Option}
-use Rattle·std.specs.declared.option.Option.the-variants.{Some, None}
-use Rattle·charts.specs.declared.fault.SettingFault.{SettingFault}
-use Rattle·charts.specs.declared.fault.SettingFault.the-variants.{OutOfRange}
+--   walk_fault   refusal 4, unless h is from 1 to 2,048
+use Rattle.std.specs.Prelude.{ℕ, cond, ◌&&◌, Some, None, Option, nat_le}
+use Rattle.charts.specs.declared.fault.SettingFault.{SettingFault}
+use Rattle.charts.specs.declared.fault.SettingFault.TheVariants.{OutOfRange}
 
-abbrev pub walkFault : ℕ → Option SettingFault
-walkFault h = cond (leb 1 h && leb h 2048) None (Some OutOfRange)
+abbrev pub walk_fault : ℕ → Option SettingFault
+walk_fault h = cond (nat_le 1 h && nat_le h 2048) None (Some OutOfRange)

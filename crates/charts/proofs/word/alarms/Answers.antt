@@ -1,8 +1,7 @@
-use mathlib.Core.Path.{sym, _∙_}
-use native.Mathlib.Omega.{arith}
-use Rattle·std.proofs.shelf.Tests.{le-ltb}
-use Rattle·charts·proofs.WordLaws.{none-past}
-use Rattle·charts·proofs.word.alarms.Needs as need
+use Rattle.std.proofs.Common.{sym, ◌∙◌, arith}
+use Rattle.std.proofs.lemmas.Bool.{le-ltb}
+use Rattle.charts.proofs.WordLaws.{none_past}
+use Rattle.charts.proofs.word.alarms.Goals as goal
 
-pub returns-else-leaf-lt16 : need.returns-else-leaf-lt16
-returns-else-leaf-lt16 c = le-ltb (c .args .leaf) 16 (c .if-leaf-lt16 .left) ∙ sym (none-past (c .args .word) (c .args .leaf) (omega arith) (c .if-leaf-lt16 .left))
+pub returns-else-leaf-lt16 : goal.returns-else-leaf-lt16
+returns-else-leaf-lt16 c = le-ltb c.args.leaf 16 c.if-leaf-lt16.false ∙ sym (none_past c.args.word c.args.leaf (omega arith) c.if-leaf-lt16.false)

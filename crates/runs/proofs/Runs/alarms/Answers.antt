@@ -1,7 +1,6 @@
-use mathlib.Core.Path.{ap}
-use lib.Dec.{leb}
-use Rattle·runs·proofs.Marks.{ones-all}
-use Rattle·runs·proofs.Runs.alarms.Needs as need
+use Rattle.std.proofs.Common.{leb, ap}
+use Rattle.runs.specs.Marks.{ones_all}
+use Rattle.runs.proofs.Runs.alarms.Goals as goal
 
-pub returns : need.returns
-returns c = let self = c .args .self .now in ap (leb (self .t)) (ones-all (self .m) (c .args .marks) (c .pre))
+pub returns : goal.returns
+returns c = let self = c.args.self.now in ap (leb self.t) (ones_all self.m c.args.marks c.requires)

@@ -1,8 +1,7 @@
-use mathlib.Core.Path.{_∙_, ap}
-use Prim.Native.Nat.{_-_}
-use lib.Bits.{bitAnd}
-use Rattle·std.proofs.shelf.Bits.{and-mask}
-use Rattle·runs·proofs.Runs.latest.Needs as need
+use Rattle.std.proofs.Common.{◌-◌, ap, ◌∙◌}
+use lib.Bits.{bit_and}
+use Rattle.std.proofs.lemmas.Nat.{and_mask}
+use Rattle.runs.proofs.Runs.latest.Goals as goal
 
-pub returns : need.returns
-returns c = ap (λ n. bitAnd (c .args .marks) (n - 1)) (c .states .ensures) ∙ and-mask (c .args .marks) (c .args .self .now .m - 1)
+pub returns : goal.returns
+returns c = ap (λ n. bit_and c.args.marks (n - 1)) c.states.ensures ∙ and_mask c.args.marks (c.args.self.now.m - 1)

@@ -1,29 +1,28 @@
-use mathlib.Core.Path.{_≡_, _∙_, ap}
-use native.Mathlib.Omega.{arith}
-use mir.Syntax.{w32}
-use mir.Val.{SFits}
-use borrow.Author.Needs.{needs}
-use Rattle·std.proofs.shelf.Signed.{toZ-ofZ}
-use Rattle·runs·specs.Runs.{mark}
-use Rattle·runs·proofs.Marks.{mark-one}
-use Rattle·runs·proofs.RecentLaws.{seen-more, seen-few, seen-ended, seen-full}
-use Rattle·runs·proofs.Runs.recent.Needs as need
+use Rattle.std.proofs.Common.{◌≡◌, ap, ◌∙◌, arith, w16, w32, SFits, to_z, of_z, rules}
+use Rattle.std.proofs.lemmas.Int.{to_z-of_z}
+use Rattle.runs.specs.Runs.{mark}
+use Rattle.runs.specs.Marks.{mark_one}
+use Rattle.runs.proofs.RecentLaws.{seen_more, seen_few, seen_ended, seen_full}
+use Rattle.runs.proofs.Runs.recent.Goals as goal
 
-mark-is : (c : need.After-mark-count) → c .mark-count .result ≡ mark (c .args .self .now .y) (c .in-Some .score)
-mark-is c = let fits : SFits w32 (c .in-Some .score) = search needs in c .mark-count .ensures ∙ ap (mark (c .args .self .now .y)) (toZ-ofZ w32 _ fits)
+mark_is : (c : goal.After-mark-count) → c.mark-count.result ≡ mark c.args.self.now.y c.in-Some.score
+mark_is c =
+    let narrow : SFits w16 c.in-Some.score = search rules in
+    let wide : SFits w32 (to_z w16 (of_z w16 c.in-Some.score)) = search rules in
+    c.mark-count.ensures ∙ ap (mark c.args.self.now.y) (to_z-of_z w32 _ wide ∙ to_z-of_z w16 _ narrow)
 
-pub returns-in-rest : need.returns-in-rest
-returns-in-rest c = seen-ended _ _ _ _ _ (c .loop .inv) (c .args .self .now .m) (omega arith) (c .in-rest .ensures tt)
+pub returns-in_default : goal.returns-in_default
+returns-in_default c = seen_ended _ _ _ _ _ c.loop.invariant c.args.self.now.m (omega arith) c.in_default.ensures
 
-pub add-count : need.add-count
-add-count c =
-    let few = seen-few _ _ _ _ _ (c .loop .inv) in
-    let is = mark-is c in
-    let one = mark-one (c .args .self .now .y) (c .in-Some .score) in
+pub overflow_add-count : goal.overflow_add-count
+overflow_add-count c =
+    let few = seen_few _ _ _ _ _ c.loop.invariant in
+    let is = mark_is c in
+    let one = mark_one c.args.self.now.y c.in-Some.score in
     omega arith
 
-pub loop-again : need.loop-again
-loop-again c = seen-more _ _ _ _ _ (c .loop .inv) _ _ _ (c .in-Some .ensures tt) (mark-is c)
+pub loop-preserved : goal.loop-preserved
+loop-preserved c = seen_more _ _ _ _ _ c.loop.invariant _ _ _ c.in-Some.ensures (mark_is c)
 
-pub returns : need.returns
-returns c = seen-full _ _ _ _ _ (c .loop .inv) (c .args .self .now .m) (omega arith)
+pub returns : goal.returns
+returns c = seen_full _ _ _ _ _ c.loop.invariant c.args.self.now.m (omega arith)

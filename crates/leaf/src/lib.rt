@@ -1,7 +1,0 @@
-// Leaves: what stands on a sheet. A leaf is one of four rules, plain or turned.
-mod leaf;
-mod rule;
-
-pub use leaf::Leaf;
-pub use leaf::LeafChart;
-pub use rule::Rule;

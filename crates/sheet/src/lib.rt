@@ -1,6 +1,0 @@
-// Sheets of leaves.
-mod row;
-mod sheet;
-
-pub use sheet::Sheet;
-pub use sheet::SheetChart;
