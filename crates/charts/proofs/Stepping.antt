@@ -22,7 +22,7 @@ size_there (Some n) leaves = refl
 
 -- a start that is answered is the start
 pub started_is : (size : Option ℕ) (start s : ℕ) → started size start ≡ Ok s → s ≡ start
-started_is None start s e = let z : ◌≡◌ {A = ℕ} 0 1 = cc in absurd (omega arith)
+started_is None start s e = cc
 started_is (Some n) start s e = cc
 
 -- a step that is answered is the step from a state below the size by a score
@@ -35,7 +35,7 @@ pub record Took (size : Option ℕ) (next word : ℕ → ℤ → ℕ) (s : ℕ) 
   pub bits : w ≡ word s x
 
 pub stepped_is : (size : Option ℕ) (next word : ℕ → ℤ → ℕ) (s : ℕ) (x : ℤ) (t w : ℕ) → stepped size next word s x ≡ Ok (t, w) → Took size next word s x t w
-stepped_is None next word s x t w e = let z : ◌≡◌ {A = ℕ} 0 1 = cc in absurd (omega arith)
+stepped_is None next word s x t w e = cc
 stepped_is (Some n) next word s x t w e = go (ltb s n && is_score x) refl e
   where
     go : (b : Bool) → (ltb s n && is_score x) ≡ b → ◌≡◌ {A = Result (ℕ × ℕ) ChartFault} (cond b (Ok (next s x, word s x)) (Err OutOfRange)) (Ok (t, w)) → Took (Some n) next word s x t w
@@ -43,7 +43,7 @@ stepped_is (Some n) next word s x t w e = go (ltb s n && is_score x) refl e
         let both = and_parts (ltb s n) (is_score x) b in
         let same : ◌≡◌ {A = ℕ × ℕ} (next s x, word s x) (t, w) = cc in
         record { n = n; sized = refl; below = ltb-true s n both.0; score = both.1; state = sym (ap (λ z. z.0) same); bits = sym (ap (λ z. z.1) same) }
-    go false b e = let z : ◌≡◌ {A = ℕ} 0 1 = cc in absurd (omega arith)
+    go false b e = cc
 
 -- a step from a state below the size by a score is answered
 pub stepped_ok : (size : Option ℕ) (next word : ℕ → ℤ → ℕ) (s : ℕ) (x : ℤ) (n : ℕ) → size ≡ Some n → s < n → Score x → stepped size next word s x ≡ Ok (next s x, word s x)
@@ -52,9 +52,9 @@ stepped_ok size next word s x n e b k =
 
 -- a word that is answered is the look-back word, of a list that passes the check
 pub looked_is : (size : Option ℕ) (look : List ℤ → ℕ) (xs : List ℤ) (w : ℕ) → looked size look xs ≡ Ok w → (w ≡ look xs) × (checked xs ≡ Ok tt)
-looked_is None look xs w e = let z : ◌≡◌ {A = ℕ} 0 1 = cc in absurd (omega arith)
+looked_is None look xs w e = cc
 looked_is (Some n) look xs w e = go (checked xs) refl e
   where
     go : (t : Result (Unit {0}) ChartFault) → checked xs ≡ t → taken t (look xs) ≡ Ok w → (w ≡ look xs) × (checked xs ≡ Ok tt)
     go (Ok u) c e = (cc, c)
-    go (Err f) c e = let z : ◌≡◌ {A = ℕ} 0 1 = cc in absurd (omega arith)
+    go (Err f) c e = cc

@@ -1,7 +1,7 @@
 // Why a chart declines.
 ghost use Rattle.charts.specs.Faults.{chart_refusal, setting_refusal};
 
-use common::{Carried, Fault, Refusal};
+use common::{Fault, Refusal};
 
 // Why a step or a look-back is declined.
 #[derive(Clone, Copy, Debug, PartialEq)]
@@ -18,15 +18,11 @@ impl Fault for ChartFault {
     ghost refusal = { chart_refusal };
 
     fn refusal(&self) -> Refusal {
-        let number = match self {
+        Refusal::bare(match self {
             ChartFault::NoSize => 5,
             ChartFault::OutOfRange => 6,
             ChartFault::TooLong => 15,
-        };
-        Refusal {
-            number,
-            carried: Carried::Nothing,
-        }
+        })
     }
 }
 
@@ -42,10 +38,7 @@ impl Fault for SettingFault {
 
     fn refusal(&self) -> Refusal {
         match self {
-            SettingFault::OutOfRange => Refusal {
-                number: 4,
-                carried: Carried::Nothing,
-            },
+            SettingFault::OutOfRange => Refusal::bare(4),
         }
     }
 }
