@@ -1,11 +1,13 @@
 -- Lists of scores from the end to the beginning.
-use Rattle.std.proofs.Common.{◌≡◌, ℕ, suc, ◌+◌, ◌*◌, ◌≤◌, true, List, [], ◌∷◌, ◌++◌, length, ℤ, pos, ◌+ℤ◌, neg_ℤ, ◌≤ℤ◌, sym, refl, ap, ◌∙◌, arith, mul-suc, mul-le-mul_left}
+use Rattle.std.proofs.Common.{◌≡◌, ℕ, suc, ◌+◌, ◌*◌, ◌≤◌, true, List, [], ◌∷◌, ◌++◌, length, ℤ, pos, negsuc, ◌+ℤ◌, neg_ℤ, ◌≤ℤ◌, Ok, sym, refl, ap, ◌∙◌, arith, mul-suc, mul-le-mul_left}
 use Rattle.std.proofs.lemmas.Int.{ints}
 use Rattle.std.proofs.lemmas.Bool.{and_parts, and_from}
 use Rattle.std.proofs.lemmas.List.{length-reverse, reverse-append, reverse-reverse}
 use Rattle.std.proofs.lemmas.List.Folds.{list_all-append}
 use Rattle.common.specs.Score.{is_score}
-use Rattle.charts.specs.Scores.{are_scores, backward}
+use Rattle.common.proofs.ScoreLaws.{score_within}
+use Rattle.charts.specs.Scores.{are_scores, backward, checked}
+use Rattle.charts.proofs.Looking.{passed}
 
 pub backward_cons : (x : ℤ) (xs : List ℤ) → backward (x ∷ xs) ≡ backward xs ++ x ∷ []
 backward_cons x xs = reverse-append (x ∷ []) xs
@@ -25,21 +27,32 @@ backward_scores (x ∷ xs) q =
 pub backward_whole : {A : Type 0} (f g : List ℤ → A) → ((ys : List ℤ) → f ys ≡ g (backward ys)) → (xs : List ℤ) → f (backward xs) ≡ g xs
 backward_whole f g same xs = same (backward xs) ∙ ap g (reverse-reverse xs)
 
--- a sum over at most 4,096 scores, of which `left` are still to come, where each adds at most `most` either way
-pub record Within (most : ℕ) (sum : ℤ) (left : List ℤ) : Type 0 where
+-- a sum over at most 4,096 scores, each of which adds at most `most` either way, where the scores `left` are still to come
+pub record Summing (most : ℕ) (sum : ℤ) (left : List ℤ) : Type 0 where
+  pub scores : are_scores left ≡ true
   pub low : neg_ℤ (pos (most * 4096)) ≤ℤ (sum +ℤ neg_ℤ (pos (most * length left)))
   pub high : (sum +ℤ pos (most * length left)) ≤ℤ pos (most * 4096)
 
 module _ (most : ℕ) where
-  pub within_none : (xs : List ℤ) → length xs ≤ 4096 → Within most (pos 0) (backward xs)
-  within_none xs few =
+  pub summing_none : (xs : List ℤ) → checked xs ≡ Ok tt → Summing most (pos 0) (backward xs)
+  summing_none xs ok =
+      let taken = passed xs ok in
+      let few = taken.few in
       let fits : most * length (backward xs) ≤ most * 4096 = mul-le-mul_left most (omega (arith, backward_length xs)) in
-      record { low = omega (arith, ints); high = omega (arith, ints) }
+      record { scores = backward_scores xs taken.scores; low = omega (arith, ints); high = omega (arith, ints) }
 
-  pub within_more : (sum d x : ℤ) (left : List ℤ) → Within most sum (x ∷ left) → neg_ℤ (pos most) ≤ℤ d → d ≤ℤ pos most → Within most (sum +ℤ d) left
-  within_more sum d x left w down up =
-      let one : most * suc (length left) ≡ most * length left + most = mul-suc most (length left) in
-      record { low = let low = w.low in omega (arith, ints); high = let high = w.high in omega (arith, ints) }
+  pub summing_bounds : (sum : ℤ) (left : List ℤ) → Summing most sum left → (neg_ℤ (pos (most * 4096)) ≤ℤ sum) × (sum ≤ℤ pos (most * 4096))
+  summing_bounds sum left s = (let low = s.low in omega (arith, ints), let high = s.high in omega (arith, ints))
 
-  pub within_bounds : (sum : ℤ) (left : List ℤ) → Within most sum left → (neg_ℤ (pos (most * 4096)) ≤ℤ sum) × (sum ≤ℤ pos (most * 4096))
-  within_bounds sum left w = (let low = w.low in omega (arith, ints), let high = w.high in omega (arith, ints))
+  -- x is the next of those left
+  module _ (sum x : ℤ) (left rest : List ℤ) (s : Summing most sum left) (next : left ≡ x ∷ rest) where
+    parts : (is_score x ≡ true) × (are_scores rest ≡ true)
+    parts = and_parts (is_score x) (are_scores rest) (sym (ap are_scores next) ∙ s.scores)
+
+    pub summing_score : (negsuc 999 ≤ℤ x) × (x ≤ℤ pos 1000)
+    summing_score = score_within x parts.0
+
+    pub summing_more : (d : ℤ) → neg_ℤ (pos most) ≤ℤ d → d ≤ℤ pos most → Summing most (sum +ℤ d) rest
+    summing_more d down up =
+        let one : most * length left ≡ most * length rest + most = ap (λ l. most * length l) next ∙ mul-suc most (length rest) in
+        record { scores = parts.1; low = let low = s.low in omega (arith, ints); high = let high = s.high in omega (arith, ints) }

@@ -3,13 +3,11 @@ use Rattle.std.proofs.Common.{◌≡◌, ℕ, ◌+◌, ◌*◌, ◌≤◌, Bool,
 use Rattle.std.specs.List.{list_any}
 use Rattle.std.proofs.Math.Bool.{or_comm, or-false}
 use Rattle.std.proofs.lemmas.List.{append_assoc, append-nil}
-use Rattle.std.proofs.lemmas.Bool.{and_parts}
 use Rattle.std.proofs.lemmas.Int.{ints}
 use Rattle.common.specs.Score.{is_score}
 use Rattle.common.proofs.ScoreLaws.{score_within}
-use Rattle.charts.specs.Scores.{are_scores, backward, checked}
-use Rattle.charts.proofs.Backward.{Within, backward_cons, backward_scores, backward_whole, within_none, within_more, within_bounds}
-use Rattle.charts.proofs.Looking.{passed}
+use Rattle.charts.specs.Scores.{backward, checked}
+use Rattle.charts.proofs.Backward.{Summing, backward_cons, backward_whole, summing_none, summing_bounds, summing_score, summing_more}
 use Rattle.page.specs.Page.{excess, trailing_parts, masked}
 
 module _ (h : ℕ) (k : ℤ) (s0 : ℕ) where
@@ -42,37 +40,27 @@ module _ (h : ℕ) (k : ℤ) (s0 : ℕ) where
   -- the list xs, with the sum of the scores read so far, none of which alarmed, and those left, the latest first
   pub record Reading (xs : List ℤ) (sum : ℤ) (left : List ℤ) : Type 0 where
     pub mask : mask_on sum left ≡ masked h k s0 xs
-    pub scores : are_scores left ≡ true
-    pub within : Within 2000 sum left
+    pub summing : Summing 2000 sum left
 
   pub reading_none : (xs : List ℤ) → checked xs ≡ Ok tt → Reading xs (pos 0) (backward xs)
-  reading_none xs ok =
-      let passed = passed xs ok in
-      record { mask = mask_is xs; scores = backward_scores xs passed.scores; within = within_none 2000 xs passed.few }
+  reading_none xs ok = record { mask = mask_is xs; summing = summing_none 2000 xs ok }
 
   -- x is the latest of those left, and t the sum with it
   module _ (xs : List ℤ) (sum x t : ℤ) (left rest : List ℤ) (reference : is_score k ≡ true) (reading : Reading xs sum left) (next : left ≡ x ∷ rest) (is : t ≡ sum +ℤ (x -ℤ k)) where
-    parts : (is_score x ≡ true) × (are_scores rest ≡ true)
-    parts = and_parts (is_score x) (are_scores rest) (sym (ap are_scores next) ∙ reading.scores)
-
-    within : Within 2000 t rest
-    within =
-        let score = score_within x parts.0 in
+    summing : Summing 2000 t rest
+    summing =
+        let score = summing_score 2000 sum x left rest reading.summing next in
         let setting = score_within k reference in
-        subst (λ u. Within 2000 u rest) (sym is) (within_more 2000 sum (x -ℤ k) x rest (subst (Within 2000 sum) next reading.within) (omega (arith, ints)) (omega (arith, ints)))
+        subst (λ u. Summing 2000 u rest) (sym is) (summing_more 2000 sum x left rest reading.summing next (x -ℤ k) (omega (arith, ints)) (omega (arith, ints)))
 
     decides : (int_le (pos h) t || mask_on t rest) ≡ masked h k s0 xs
     decides = ap (λ u. int_le (pos h) u || mask_on u rest) is ∙ sym (ap (mask_on sum) next) ∙ reading.mask
 
     pub reading_fits : (negsuc 8191999 ≤ℤ t) × (t ≤ℤ pos 8192000)
-    reading_fits = within_bounds 2000 t rest within
+    reading_fits = summing_bounds 2000 t rest summing
 
     pub reading_more : int_le (pos h) t ≡ false → Reading xs t rest
-    reading_more quiet = record {
-      mask = sym (ap (λ b. b || mask_on t rest) quiet) ∙ decides;
-      scores = parts.1;
-      within = within;
-    }
+    reading_more quiet = record { mask = sym (ap (λ b. b || mask_on t rest) quiet) ∙ decides; summing = summing }
 
     pub reading_alarms : int_le (pos h) t ≡ true → true ≡ masked h k s0 xs
     reading_alarms alarm = sym (ap (λ b. b || mask_on t rest) alarm) ∙ decides
