@@ -2,7 +2,7 @@
 use Rattle.std.proofs.Common.{◌≡◌, ℕ, ◌<◌, Bool, true, false, cond, ◌&&◌, ltb, List, ℤ, is_some, Some, None, Ok, Err, Option, Result, sym, refl, ap, ◌∙◌, arith}
 use Rattle.std.proofs.lemmas.Bool.{ltb-true, lt-ltb, and_parts, and_from}
 use Rattle.common.specs.Score.{is_score, Score}
-use Rattle.charts.specs.Answers.{size_of, started, stepped, taken, looked}
+use Rattle.charts.specs.Answers.{admitted, size_of, started, stepped, taken, looked}
 use Rattle.charts.specs.Scores.{checked}
 use Rattle.charts.specs.declared.chart.Size.{Size}
 use Rattle.charts.specs.declared.fault.ChartFault.{ChartFault}
@@ -49,6 +49,10 @@ stepped_is (Some n) next word s x t w e = go (ltb s n && is_score x) refl e
 pub stepped_ok : (size : Option ℕ) (next word : ℕ → ℤ → ℕ) (s : ℕ) (x : ℤ) (n : ℕ) → size ≡ Some n → s < n → Score x → stepped size next word s x ≡ Ok (next s x, word s x)
 stepped_ok size next word s x n e b k =
     ap (λ o. stepped o next word s x) e ∙ ap (λ t. cond {A = Result (ℕ × ℕ) ChartFault} t (Ok (next s x, word s x)) (Err OutOfRange)) (and_from (ltb s n) (is_score x) (lt-ltb s n b) k)
+
+-- a step that is taken is from a state below the size, by a score
+pub admitted_is : (n s : ℕ) (x : ℤ) (ok : Unit {0}) → admitted n s x ≡ Ok ok → (s < n) × Score x
+admitted_is n s x ok e = (grind arith, grind arith)
 
 -- a word that is answered is the look-back word, of a list that passes the check
 pub looked_is : (size : Option ℕ) (look : List ℤ → ℕ) (xs : List ℤ) (w : ℕ) → looked size look xs ≡ Ok w → (w ≡ look xs) × (checked xs ≡ Ok tt)

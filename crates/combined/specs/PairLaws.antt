@@ -28,11 +28,11 @@ parts a b n e = go a.size b.size refl refl e
     known p q f s true t e =
         let both = and_parts (nat_le (p * q) 65536) (nat_le (a.leaves + b.leaves) 16) t in
         record { p = p; q = q; first = f; second = s; is = cc; few = leb-true _ _ both.0; narrow = leb-true _ _ both.1 }
-    known p q f s false t e = let z : ◌≡◌ {A = ℕ} 0 1 = cc in absurd (omega arith)
+    known p q f s false t e = cc
 
     go : (x y : Option ℕ) → a.size ≡ x → b.size ≡ y → product x y (a.leaves + b.leaves) ≡ Some n → Parts a b n
-    go None y f s e = let z : ◌≡◌ {A = ℕ} 0 1 = cc in absurd (omega arith)
-    go (Some p) None f s e = let z : ◌≡◌ {A = ℕ} 0 1 = cc in absurd (omega arith)
+    go None y f s e = cc
+    go (Some p) None f s e = cc
     go (Some p) (Some q) f s e = known p q f s _ refl e
 
 -- a word is 0 only where both its parts are
