@@ -13,7 +13,7 @@ use scoring::{Source, SourceFault, SourceSettingFault, admit, is_in_range};
 // 1/1024
 const LEAST_UNIT: f64 = 0.0009765625;
 
-#[derive(Clone, Copy)]
+#[derive(Clone, Copy, Debug, PartialEq)]
 pub struct Measure {
     target: f64,
     unit: f64,
