@@ -7,7 +7,7 @@ mod report;
 use combined::Pair;
 use counts::counts_of;
 use page::Page;
-use report::{look, text_of};
+use report::look;
 use scoring::Count;
 use shewhart::Shewhart;
 use std::alloc::Global;
@@ -34,7 +34,6 @@ pub fn report_of(
     chart: &Pair<Page, Shewhart>,
     column: &[u8],
 ) -> anyhow::Result<String> {
-    let counts = counts_of(heap, column)?;
-    let report = look(heap, source, chart, counts.as_slice())?;
-    text_of(heap, counts.as_slice(), &report)
+    let report = look(heap, source, chart, counts_of(heap, column)?)?;
+    Ok(format!(in heap; "{report}")?)
 }
