@@ -76,11 +76,9 @@ mod tests {
     ) -> Result<(), Fail> {
         let mut state = page.start()?;
         for (i, sum) in sums.iter().enumerate() {
-            let (next, word) = page.step(state, lots[i])?;
-            assert_eq!(rt; word, 0);
-            assert_eq!(rt; next, *sum);
-            assert_eq!(rt; look_back_scores(page, &lots[..i + 1])?, 0);
-            state = next;
+            assert_eq!(rt; page.step(state, lots[i])?, (*sum, 0));
+            assert_eq!(rt; look_back_scores(page, &lots[..=i])?, 0);
+            state = *sum;
         }
         Ok(())
     }
@@ -92,10 +90,7 @@ mod tests {
         assert_eq!(rt; above.step(15, LOTS[39])?, (4, 1));
         assert_eq!(rt; look_back_scores(&above, &LOTS)?, 1);
         let below = Page::new(10, 4, 2)?;
-        let mut opposite = LOTS;
-        for lot in opposite.iter_mut() {
-            *lot = lot.wrapping_neg();
-        }
+        let opposite = LOTS.map(|lot| lot.wrapping_neg());
         check_sums(&rt, &below, &opposite, &BELOW)?;
         assert_eq!(rt; look_back_scores(&below, &opposite)?, 0);
         Ok(())
