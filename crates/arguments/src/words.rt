@@ -32,7 +32,11 @@ impl<'a> Words<'a> {
         let place = self.place();
         match self.next_word().unwrap_or("") {
             found if found == wanted => Ok(()),
-            found => Err(Complaint::Unfit { place, wanted, found }),
+            found => Err(Complaint::Unfit {
+                place,
+                wanted,
+                found,
+            }),
         }
     }
 
@@ -43,9 +47,11 @@ impl<'a> Words<'a> {
     {
         let place = self.place();
         let found = self.next_word().unwrap_or("");
-        found
-            .parse()
-            .map_err(|_| Complaint::Unfit { place, wanted, found })
+        found.parse().map_err(|_| Complaint::Unfit {
+            place,
+            wanted,
+            found,
+        })
     }
 
     pub fn end(&mut self) -> Result<(), Complaint<'a>> {

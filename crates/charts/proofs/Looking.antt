@@ -1,12 +1,10 @@
 -- What the check of a list of scores tells.
-use Rattle.std.proofs.Common.{◌≡◌, ℕ, ◌≤◌, Bool, true, false, cond, leb, List, [], ◌∷◌, ◌++◌, length, ℤ, Ok, Err, Result, sym, ◌∙◌, arith}
-use Rattle.std.proofs.lemmas.Bool.{leb-true, le-leb, and_parts, and_from}
+use Rattle.std.proofs.Common.{◌≡◌, ◌≤◌, true, List, [], ◌∷◌, ◌++◌, length, ℤ, Ok, sym, ◌∙◌, arith}
+use Rattle.std.proofs.lemmas.Bool.{and_parts}
 use Rattle.std.specs.List.{AllByRecursion}
 use Rattle.std.proofs.lemmas.List.Folds.{list_all-append}
 use Rattle.common.specs.Score.{is_score, Score}
 use Rattle.charts.specs.Scores.{are_scores, checked}
-use Rattle.charts.specs.declared.fault.ChartFault.{ChartFault}
-use Rattle.charts.specs.declared.fault.ChartFault.TheVariants.{OutOfRange, TooLong}
 
 -- a list that a look-back takes is short, and has only scores
 pub record Passed (xs : List ℤ) : Type 0 where

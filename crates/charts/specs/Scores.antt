@@ -6,7 +6,7 @@
 --   backward     a list from its end to its beginning
 --   to_come      what an iterator over scores has still to give
 --   LastOf       a list split at its end: nothing of an empty list, else the last element and those before it
-use Rattle.std.specs.Prelude.{◌≡◌, ◌-◌, Bool, cond, ◌&&◌, List, [], ◌∷◌, ◌++◌, length, reverse, ℤ, Some, None, Ok, Err, Option, Result, nat_le}
+use Rattle.std.specs.Prelude.{◌≡◌, ◌-◌, Bool, cond, List, [], ◌∷◌, ◌++◌, length, reverse, ℤ, Some, None, Ok, Err, Option, Result, nat_le}
 use Rattle.std.specs.List.{list_all, slice_get}
 use Rattle.common.specs.Score.{is_score}
 use Rattle.charts.specs.declared.fault.ChartFault.{ChartFault}

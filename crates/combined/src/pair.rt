@@ -33,7 +33,11 @@ impl<A: Chart, B: Chart> Pair<A, B> {
         let leaves = first.leaves.checked_add(second.leaves)?;
         if states <= 65536 && leaves <= 16 {
             let pair = Size { states, leaves };
-            Some(Sizes { pair, first, second })
+            Some(Sizes {
+                pair,
+                first,
+                second,
+            })
         } else {
             None
         }

@@ -36,6 +36,9 @@ fn answer(rt: &HostRuntime, words: &[String]) -> anyhow::Result<String> {
     let request = request_of(words)?;
     let mut column = Vec::new(heap);
     rt.stdin().take(MOST + 1).read_to_end(&mut column)?;
-    ensure!(column.len() as u64 <= MOST, "the input is longer than a megabyte");
+    ensure!(
+        column.len() as u64 <= MOST,
+        "the input is longer than a megabyte"
+    );
     report_of(heap, &request.source, &request.chart, &column)
 }

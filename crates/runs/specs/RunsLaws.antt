@@ -1,12 +1,11 @@
 -- The laws of the runs rule: after a quiet list the state holds the marks of its last m - 1 scores.
-use Rattle.std.specs.Prelude.{◌≡◌, ℕ, ◌-◌, ◌%◌, ◌^◌, ◌<◌, ◌≤◌, Bool, true, false, cond, leb, List, [], ◌∷◌, ◌++◌, ℤ, nat_le}
-use Rattle.std.proofs.Common.{sym, ap, ◌∙◌, subst, mod-lt, arith, pow_pos, pow_mono}
+use Rattle.std.specs.Prelude.{◌≡◌, ℕ, ◌-◌, ◌%◌, ◌^◌, ◌≤◌, cond, leb, List, [], ◌∷◌, ◌++◌, ℤ, nat_le}
+use Rattle.std.proofs.Common.{sym, ap, ◌∙◌, mod-lt, arith, pow_pos, pow_mono}
 use Rattle.std.proofs.Math.Seq.{drop-nil}
 use Rattle.std.specs.List.{AllByRecursion}
 use Rattle.std.proofs.lemmas.Bool.{lt-leb}
 use Rattle.common.specs.Score.{Score}
 use Rattle.charts.specs.Model.{Lawful, Quiet, run}
-use Rattle.charts.specs.Words.{bit}
 use Rattle.charts.proofs.Running.{run_push, run_tracks}
 use Rattle.charts.proofs.LeafLaws.{leaf_lawful}
 use Rattle.charts.proofs.WordLaws.{bit_none}

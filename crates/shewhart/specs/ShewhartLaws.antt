@@ -1,5 +1,5 @@
 -- The laws of the Shewhart limit.
-use Rattle.std.specs.Prelude.{◌≡◌, ℤ, refl}
+use Rattle.std.specs.Prelude.{ℤ, refl}
 use Rattle.std.proofs.Common.{sym, ap, arith}
 use Rattle.charts.specs.Model.{Lawful}
 use Rattle.charts.proofs.LeafLaws.{leaf_lawful}

@@ -1,13 +1,12 @@
 -- The laws of the random walk: after a quiet list the state stands for the total of the list.
-use Rattle.std.specs.Prelude.{◌≡◌, ℕ, ◌-◌, ◌*◌, ◌<◌, ◌≤◌, Bool, true, false, cond, List, [], ◌∷◌, ◌++◌, ℤ, pos, ◌+ℤ◌, neg_ℤ, int_le, refl}
-use Rattle.std.proofs.Common.{sym, ap, ◌∙◌, subst, arith}
+use Rattle.std.specs.Prelude.{◌≡◌, ℕ, ◌-◌, ◌*◌, ◌<◌, ◌≤◌, false, cond, List, [], ◌∷◌, ◌++◌, ℤ, pos, ◌+ℤ◌, neg_ℤ, int_le}
+use Rattle.std.proofs.Common.{sym, ap, ◌∙◌, arith}
 use Rattle.std.specs.List.{AllByRecursion}
 use Rattle.std.proofs.lemmas.List.{append-nil}
 use Rattle.std.proofs.lemmas.Int.{ints}
 use Rattle.std.proofs.lemmas.Bool.{or_parts, or_from}
 use Rattle.common.specs.Score.{Score}
 use Rattle.charts.specs.Model.{Lawful, Quiet, run}
-use Rattle.charts.specs.Words.{bit}
 use Rattle.charts.proofs.Running.{run_tracks}
 use Rattle.charts.proofs.LeafLaws.{leaf_lawful}
 use Rattle.charts.proofs.WordLaws.{bit_none}

@@ -1,4 +1,4 @@
-use Rattle.std.proofs.Common.{◌≡◌, pos, ◌+ℤ◌, subst, arith, w16, w32, to_z, of_z}
+use Rattle.std.proofs.Common.{◌≡◌, pos, ◌+ℤ◌, subst, arith, w32, to_z, of_z}
 use Rattle.std.proofs.lemmas.Int.{ints}
 use Rattle.charts.specs.Scores.{backward, listed, to_come}
 use Rattle.walk.proofs.TotalLaws.{Reading, reading_none, reading_all, reading_fits, reading_more}
