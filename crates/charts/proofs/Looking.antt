@@ -1,8 +1,7 @@
 -- What the check of a list of scores tells.
-use Rattle.std.proofs.Common.{◌≡◌, ◌≤◌, true, List, [], ◌∷◌, ◌++◌, length, ℤ, Ok, sym, ◌∙◌, arith}
+use Rattle.std.proofs.Common.{◌≡◌, ◌≤◌, true, List, [], ◌∷◌, length, ℤ, Ok, arith}
 use Rattle.std.proofs.lemmas.Bool.{and_parts}
 use Rattle.std.specs.List.{AllByRecursion}
-use Rattle.std.proofs.lemmas.List.Folds.{list_all-append}
 use Rattle.common.specs.Score.{is_score, Score}
 use Rattle.charts.specs.Scores.{are_scores, checked}
 
@@ -13,10 +12,6 @@ pub record Passed (xs : List ℤ) : Type 0 where
 
 pub passed : (xs : List ℤ) → checked xs ≡ Ok tt → Passed xs
 passed xs e = record { few = grind arith; scores = grind arith }
-
--- both parts of a list of scores are lists of scores
-pub are_scores_parts : (xs ys : List ℤ) → are_scores (xs ++ ys) ≡ true → (are_scores xs ≡ true) × (are_scores ys ≡ true)
-are_scores_parts xs ys q = and_parts (are_scores xs) (are_scores ys) (sym (list_all-append is_score xs ys) ∙ q)
 
 -- a list of which each passes the test is a list of scores
 pub all_scores : (xs : List ℤ) → are_scores xs ≡ true → AllByRecursion Score xs
