@@ -1,31 +1,25 @@
 -- Lists of scores from the end to the beginning.
-use Rattle.std.proofs.Common.{◌≡◌, ℕ, ◌+◌, ◌*◌, ◌≤◌, true, List, [], ◌∷◌, ◌++◌, length, ℤ, pos, negsuc, ◌+ℤ◌, neg_ℤ, ◌≤ℤ◌, Ok, sym, refl, ap, ◌∙◌, arith, mul-suc, mul-le-mul_left}
+use Rattle.std.proofs.Common.{reverse, ◌≡◌, ℕ, ◌+◌, ◌*◌, ◌≤◌, true, List, [], ◌∷◌, ◌++◌, length, ℤ, pos, negsuc, ◌+ℤ◌, neg_ℤ, ◌≤ℤ◌, Ok, sym, refl, ap, ◌∙◌, arith, mul-suc, mul-le-mul_left}
 use Rattle.std.proofs.lemmas.Int.{ints}
 use Rattle.std.proofs.lemmas.Bool.{and_parts, and_from}
 use Rattle.std.proofs.lemmas.List.{length-reverse, reverse-append, reverse-reverse}
 use Rattle.std.proofs.lemmas.List.Folds.{list_all-append}
 use Rattle.common.specs.Score.{is_score}
 use Rattle.common.proofs.ScoreLaws.{score_within}
-use Rattle.charts.specs.Scores.{are_scores, backward, checked}
+use Rattle.charts.specs.Scores.{are_scores, checked}
 use Rattle.charts.proofs.Looking.{passed}
 
-pub backward_cons : (x : ℤ) (xs : List ℤ) → backward (x ∷ xs) ≡ backward xs ++ x ∷ []
-backward_cons x xs = reverse-append (x ∷ []) xs
-
-pub backward_length : (xs : List ℤ) → length (backward xs) ≡ length xs
-backward_length xs = length-reverse xs
-
-pub backward_scores : (xs : List ℤ) → are_scores xs ≡ true → are_scores (backward xs) ≡ true
-backward_scores [] q = refl
-backward_scores (x ∷ xs) q =
+pub reverse_scores : (xs : List ℤ) → are_scores xs ≡ true → are_scores (reverse xs) ≡ true
+reverse_scores [] q = refl
+reverse_scores (x ∷ xs) q =
     let both = and_parts (is_score x) (are_scores xs) q in
-    ap are_scores (backward_cons x xs)
-    ∙ list_all-append is_score (backward xs) (x ∷ [])
-    ∙ and_from (are_scores (backward xs)) (are_scores (x ∷ [])) (backward_scores xs both.1) (and_from (is_score x) true both.0 refl)
+    ap are_scores (reverse-append (x ∷ []) xs)
+    ∙ list_all-append is_score (reverse xs) (x ∷ [])
+    ∙ and_from (are_scores (reverse xs)) (are_scores (x ∷ [])) (reverse_scores xs both.1) (and_from (is_score x) true both.0 refl)
 
 -- what holds of a list read backward and of what is read already, whichever list it is
-pub backward_whole : {A : Type 0} (f g : List ℤ → A) → ((ys : List ℤ) → f ys ≡ g (backward ys)) → (xs : List ℤ) → f (backward xs) ≡ g xs
-backward_whole f g same xs = same (backward xs) ∙ ap g (reverse-reverse xs)
+pub read_backward : {A : Type 0} (f g : List ℤ → A) → ((ys : List ℤ) → f ys ≡ g (reverse ys)) → (xs : List ℤ) → f (reverse xs) ≡ g xs
+read_backward f g same xs = same (reverse xs) ∙ ap g (reverse-reverse xs)
 
 -- a sum over at most 4,096 scores, each of which adds at most `most` either way, where the scores `left` are still to come
 pub record Summing (most : ℕ) (sum : ℤ) (left : List ℤ) : Type 0 where
@@ -34,12 +28,12 @@ pub record Summing (most : ℕ) (sum : ℤ) (left : List ℤ) : Type 0 where
   pub high : (sum +ℤ pos (most * length left)) ≤ℤ pos (most * 4096)
 
 module _ (most : ℕ) where
-  pub summing_none : (xs : List ℤ) → checked xs ≡ Ok tt → Summing most (pos 0) (backward xs)
+  pub summing_none : (xs : List ℤ) → checked xs ≡ Ok tt → Summing most (pos 0) (reverse xs)
   summing_none xs ok =
       let taken = passed xs ok in
       let few = taken.few in
-      let fits : most * length (backward xs) ≤ most * 4096 = mul-le-mul_left most (omega (arith, backward_length xs)) in
-      record { scores = backward_scores xs taken.scores; low = omega (arith, ints); high = omega (arith, ints) }
+      let fits : most * length (reverse xs) ≤ most * 4096 = mul-le-mul_left most (omega (arith, length-reverse xs)) in
+      record { scores = reverse_scores xs taken.scores; low = omega (arith, ints); high = omega (arith, ints) }
 
   pub summing_bounds : (sum : ℤ) (left : List ℤ) → Summing most sum left → (neg_ℤ (pos (most * 4096)) ≤ℤ sum) × (sum ≤ℤ pos (most * 4096))
   summing_bounds sum left s = (let low = s.low in omega (arith, ints), let high = s.high in omega (arith, ints))

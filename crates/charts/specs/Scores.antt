@@ -3,7 +3,6 @@
 --   are_scores   whether every number of a list is a score
 --   checked      whether a look-back takes a list: 15 where it has more than 4,096 numbers, then 6 where one is no score
 --   latest       the latest score of a list, if it has one
---   backward     a list from its end to its beginning
 --   to_come      what an iterator over scores has still to give
 --   LastOf       a list split at its end: nothing of an empty list, else the last element and those before it
 use Rattle.std.specs.Prelude.{◌≡◌, ◌-◌, Bool, cond, List, [], ◌∷◌, ◌++◌, length, reverse, ℤ, Some, None, Ok, Err, Option, Result, nat_le}
@@ -17,11 +16,8 @@ use Rattle.charts.specs.declared.scores.LatestFirst.{LatestFirst}
 abbrev pub listed : Scores → List ℤ
 listed view = view.list.now
 
-abbrev pub backward : List ℤ → List ℤ
-backward xs = reverse xs
-
 abbrev pub to_come : LatestFirst → List ℤ
-to_come scores = backward (listed scores.left)
+to_come scores = reverse (listed scores.left)
 
 abbrev pub are_scores : List ℤ → Bool
 are_scores = list_all is_score

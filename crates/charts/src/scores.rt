@@ -1,7 +1,7 @@
 // The scores that a look-back reads, the oldest first. A look-back copies none of them.
-ghost use Rattle.std.specs.Prelude.{◌≡◌};
+ghost use Rattle.std.specs.Prelude.{◌≡◌, reverse};
 ghost use Rattle.std.specs.Iterator.{YieldsFirst, item_count};
-ghost use Rattle.charts.specs.Scores.{are_scores, backward, checked, latest, listed, LastOf, to_come};
+ghost use Rattle.charts.specs.Scores.{are_scores, checked, latest, listed, LastOf, to_come};
 
 use crate::fault::ChartFault;
 use common::is_score;
@@ -47,7 +47,7 @@ impl<'a> Scores<'a> {
 
     // The scores one by one, the latest first.
     pub fn latest_first(self) -> LatestFirst<'a>
-        ensures { to_come result ≡ backward (listed self.entry) }
+        ensures { to_come result ≡ reverse (listed self.entry) }
     {
         LatestFirst { left: self }
     }

@@ -8,7 +8,8 @@ use Rattle.std.proofs.lemmas.Bool.{leb-true, eq-eqb, ne_eqb, and_parts}
 use Rattle.common.specs.Score.{Score}
 use Rattle.charts.specs.Model.{Model, Lawful, Sized, Quiet, run}
 use Rattle.charts.proofs.Lists.{snoc_ind}
-use Rattle.charts.proofs.Running.{run_push, run_below, quiet_before, quiet_whole, all_before, all_last}
+use Rattle.std.proofs.lemmas.List.Sums.{fold_push}
+use Rattle.charts.proofs.Running.{run_below, quiet_before, quiet_whole, all_before, all_last}
 use Rattle.combined.specs.Pair.{product, states, pair_word, pair_start, word_at, pair}
 
 -- what a pair's size tells
@@ -136,11 +137,11 @@ module _ (a b : Model) (la : Lawful a) (lb : Lawful b) (n : ℕ) (d : Parts a b 
           let t = run b.next b.start xs in
           let below = second_below t (run_below b d.q sized_second b.start sized_second.start_below xs kb) in
           let none = word_at_last xs x kb (all_last xs x k) qb here ∙ quiet_whole (pair a b).look xs x quiet in
-          run_push (pair a b).next (pair_start a b) xs x
+          fold_push (pair a b).next (pair_start a b) xs x
           ∙ goes_on (run (pair a b).next (pair_start a b) xs) x none
           ∙ ap (λ s. a.next (s / states b) x * states b + b.next (s % states b) x) here
           ∙ ap₂ (λ u v. a.next u x * states b + b.next v x) (div-mul-add r (states b) t below) (mod-mul-add r (states b) t below)
-          ∙ sym (ap₂ (λ u v. u * states b + v) (run_push a.next a.start xs x) (run_push b.next b.start xs x))
+          ∙ sym (ap₂ (λ u v. u * states b + v) (fold_push a.next a.start xs x) (fold_push b.next b.start xs x))
 
   pair_sized : Sized (pair a b) n
   pair_sized = record {

@@ -1,6 +1,10 @@
 // Why a program declines what it is given, in one line.
 #![tactic(auto)]
 
+ghost use Rattle.std.specs.Prelude.{◌≡◌, Some};
+ghost use Rattle.complaints.specs.Texts.{complaint_text, place_text};
+ghost use Rattle.complaints.specs.declared.Complaint.TheVariants.{Refused};
+
 use common::{Fault, Refusal};
 use std::error::Error;
 use std::fmt;
@@ -13,6 +17,8 @@ pub enum Place {
 }
 
 impl fmt::Display for Place {
+    ghost output = { λ place. Some (place_text place) };
+
     fn fmt<W: fmt::Write>(&self, f: &mut fmt::Formatter<W>) -> fmt::Result {
         match self {
             Place::Argument(place) => write!(f, "argument {place}"),
@@ -38,7 +44,9 @@ pub enum Complaint<'a> {
 }
 
 impl<'a> Complaint<'a> {
-    pub fn refused<F: Fault>(fault: &F, place: Place, rule: &'a str) -> Complaint<'a> {
+    pub fn refused<F: Fault>(fault: &F, place: Place, rule: &'a str) -> Complaint<'a>
+        ensures { result ≡ Refused (F.refusal fault.now) place rule.entry }
+    {
         Complaint::Refused {
             refusal: fault.refusal(),
             place,
@@ -48,6 +56,8 @@ impl<'a> Complaint<'a> {
 }
 
 impl fmt::Display for Complaint<'_> {
+    ghost output = { λ complaint. Some (complaint_text complaint) };
+
     fn fmt<W: fmt::Write>(&self, f: &mut fmt::Formatter<W>) -> fmt::Result {
         match self {
             Complaint::Unfit {

@@ -1,13 +1,13 @@
 -- The V-mask, read backward from the latest score.
-use Rattle.std.proofs.Common.{◌≡◌, ℕ, Bool, true, false, ◌||◌, List, [], ◌∷◌, ◌++◌, ℤ, pos, negsuc, ◌+ℤ◌, ◌-ℤ◌, ◌≤ℤ◌, int_le, Ok, sym, ap, ◌∙◌, subst, arith}
+use Rattle.std.proofs.Common.{reverse, ◌≡◌, ℕ, Bool, true, false, ◌||◌, List, [], ◌∷◌, ◌++◌, ℤ, pos, negsuc, ◌+ℤ◌, ◌-ℤ◌, ◌≤ℤ◌, int_le, Ok, sym, ap, ◌∙◌, subst, arith}
 use Rattle.std.specs.List.{list_any}
 use Rattle.std.proofs.Math.Bool.{or_comm, or-false}
-use Rattle.std.proofs.lemmas.List.{append_assoc, append-nil}
+use Rattle.std.proofs.lemmas.List.{reverse-append, append_assoc, append-nil}
 use Rattle.std.proofs.lemmas.Int.{ints}
 use Rattle.common.specs.Score.{is_score}
 use Rattle.common.proofs.ScoreLaws.{score_within}
-use Rattle.charts.specs.Scores.{backward, checked}
-use Rattle.charts.proofs.Backward.{Summing, backward_cons, backward_whole, summing_none, summing_bounds, summing_score, summing_more}
+use Rattle.charts.specs.Scores.{checked}
+use Rattle.charts.proofs.Backward.{Summing, read_backward, summing_none, summing_bounds, summing_score, summing_more}
 use Rattle.page.specs.Page.{excess, trailing_parts, masked}
 
 module _ (h : ℕ) (k : ℤ) (s0 : ℕ) where
@@ -26,23 +26,23 @@ module _ (h : ℕ) (k : ℤ) (s0 : ℕ) where
   regroup a b c = grind arith
 
   -- with the scores `ys` read
-  mask_rest : (xs ys : List ℤ) → (mask_on (excess k ys) xs || trailing ys) ≡ masked h k s0 (backward xs ++ ys)
+  mask_rest : (xs ys : List ℤ) → (mask_on (excess k ys) xs || trailing ys) ≡ masked h k s0 (reverse xs ++ ys)
   mask_rest [] ys = or_comm (int_le (pos h) (pos s0 +ℤ excess k ys)) (trailing ys)
   mask_rest (x ∷ xs) ys =
       ap (λ sum. (int_le (pos h) sum || mask_on sum xs) || trailing ys) (same_sum x ys)
       ∙ regroup (int_le (pos h) (excess k (x ∷ ys))) (mask_on (excess k (x ∷ ys)) xs) (trailing ys)
       ∙ mask_rest xs (x ∷ ys)
-      ∙ ap (masked h k s0) (sym (append_assoc (backward xs) (x ∷ []) ys) ∙ ap (λ l. l ++ ys) (sym (backward_cons x xs)))
+      ∙ ap (masked h k s0) (sym (append_assoc (reverse xs) (x ∷ []) ys) ∙ ap (λ l. l ++ ys) (sym (reverse-append (x ∷ []) xs)))
 
-  mask_is : (xs : List ℤ) → mask_on (pos 0) (backward xs) ≡ masked h k s0 xs
-  mask_is = backward_whole (mask_on (pos 0)) (masked h k s0) (λ xs. sym (or-false (mask_on (pos 0) xs)) ∙ mask_rest xs [] ∙ ap (masked h k s0) (append-nil (backward xs)))
+  mask_is : (xs : List ℤ) → mask_on (pos 0) (reverse xs) ≡ masked h k s0 xs
+  mask_is = read_backward (mask_on (pos 0)) (masked h k s0) (λ xs. sym (or-false (mask_on (pos 0) xs)) ∙ mask_rest xs [] ∙ ap (masked h k s0) (append-nil (reverse xs)))
 
   -- the list xs, with the sum of the scores read so far, none of which alarmed, and those left, the latest first
   pub record Reading (xs : List ℤ) (sum : ℤ) (left : List ℤ) : Type 0 where
     pub mask : mask_on sum left ≡ masked h k s0 xs
     pub summing : Summing 2000 sum left
 
-  pub reading_none : (xs : List ℤ) → checked xs ≡ Ok tt → Reading xs (pos 0) (backward xs)
+  pub reading_none : (xs : List ℤ) → checked xs ≡ Ok tt → Reading xs (pos 0) (reverse xs)
   reading_none xs ok = record { mask = mask_is xs; summing = summing_none 2000 xs ok }
 
   -- x is the latest of those left, and t the sum with it

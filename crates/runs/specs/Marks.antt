@@ -13,7 +13,7 @@ use Rattle.std.proofs.lemmas.List.Sums.{sum_by-append}
 use Rattle.charts.specs.Model.{run}
 use Rattle.charts.specs.Words.{bit}
 use Rattle.charts.proofs.Lists.{snoc_ind}
-use Rattle.charts.proofs.Running.{run_push}
+use Rattle.std.proofs.lemmas.List.Sums.{fold_push}
 use Rattle.runs.specs.Runs.{mark, count_in, last_scores, marked}
 
 bit_one : (b : Bool) → bit b ≤ 1
@@ -96,7 +96,7 @@ module _ (y : ℤ) where
     where
       on : (xs : List ℤ) (x : ℤ) → ((k : ℕ) → ones_in k (marks xs) ≡ count_in y (last_scores k xs)) → (k : ℕ) → ones_in k (marks (xs ++ x ∷ [])) ≡ count_in y (last_scores k (xs ++ x ∷ []))
       on xs x before zero = sym (ap (count_in y) (drop_all (length (xs ++ x ∷ []) - 0) (xs ++ x ∷ []) (omega arith)))
-      on xs x before (suc k) = ap (ones_in (suc k)) (run_push (marked y) 0 xs x) ∙ marks_push (suc k) xs x (marks xs) (omega arith) (before (suc k - 1))
+      on xs x before (suc k) = ap (ones_in (suc k)) (fold_push (marked y) 0 xs x) ∙ marks_push (suc k) xs x (marks xs) (omega arith) (before (suc k - 1))
 
   pub marks_low : (xs : List ℤ) (k : ℕ) → ones_in k (marks xs % 2 ^ k) ≡ count_in y (last_scores k xs)
   marks_low xs k = ones_low k (marks xs) ∙ marks_count xs k

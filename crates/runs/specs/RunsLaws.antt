@@ -6,7 +6,8 @@ use Rattle.std.specs.List.{AllByRecursion}
 use Rattle.std.proofs.lemmas.Bool.{lt-leb}
 use Rattle.common.specs.Score.{Score}
 use Rattle.charts.specs.Model.{Lawful, Quiet, run}
-use Rattle.charts.proofs.Running.{run_push, run_tracks}
+use Rattle.std.proofs.lemmas.List.Sums.{fold_push}
+use Rattle.charts.proofs.Running.{run_tracks}
 use Rattle.charts.proofs.LeafLaws.{leaf_lawful}
 use Rattle.charts.proofs.WordLaws.{bit_none}
 use Rattle.runs.specs.Runs.{mark, count_in, last_scores, marked, reached, runs}
@@ -24,7 +25,7 @@ module _ (t m : ℕ) (y : ℤ) (some : 1 ≤ m) where
   carried xs x k q quiet still =
       ap (λ b. cond b 0 (marked y (state xs) x % 2 ^ (m - 1))) (word_is xs x ∙ bit_none (nat_le t (count_in y (last_scores m (xs ++ x ∷ [])))) still)
       ∙ twice_low (marks y xs) (mark y x) (2 ^ (m - 1))
-      ∙ sym (ap (λ n. n % 2 ^ (m - 1)) (run_push (marked y) 0 xs x))
+      ∙ sym (ap (λ n. n % 2 ^ (m - 1)) (fold_push (marked y) 0 xs x))
 
   tracks : (xs : List ℤ) → AllByRecursion Score xs → Quiet (runs t m y).look xs → run (runs t m y).next 0 xs ≡ state xs
   tracks = run_tracks (runs t m y) state none carried

@@ -1,23 +1,24 @@
 -- The total, taken from the latest score.
-use Rattle.std.proofs.Common.{◌≡◌, List, [], ◌∷◌, ℤ, pos, negsuc, ◌+ℤ◌, ◌≤ℤ◌, Ok, refl, ap, ◌∙◌, arith}
+use Rattle.std.proofs.lemmas.List.{reverse-append}
+use Rattle.std.proofs.Common.{reverse, ◌≡◌, List, [], ◌∷◌, ℤ, pos, negsuc, ◌+ℤ◌, ◌≤ℤ◌, Ok, refl, ap, ◌∙◌, arith}
 use Rattle.std.proofs.lemmas.Int.{ints}
-use Rattle.charts.specs.Scores.{backward, checked}
-use Rattle.charts.proofs.Backward.{Summing, backward_cons, summing_none, summing_bounds, summing_score, summing_more}
+use Rattle.charts.specs.Scores.{checked}
+use Rattle.charts.proofs.Backward.{Summing, summing_none, summing_bounds, summing_score, summing_more}
 use Rattle.walk.specs.Walk.{total}
 use Rattle.walk.specs.WalkLaws.{total_push}
 
-total_backward : (xs : List ℤ) → total (backward xs) ≡ total xs
+total_backward : (xs : List ℤ) → total (reverse xs) ≡ total xs
 total_backward [] = refl
 total_backward (x ∷ xs) =
     let rest = total_backward xs in
-    ap total (backward_cons x xs) ∙ total_push (backward xs) x ∙ omega (arith, ints)
+    ap total (reverse-append (x ∷ []) xs) ∙ total_push (reverse xs) x ∙ omega (arith, ints)
 
 -- the list xs, with the sum of the scores read so far, and those left
 pub record Reading (xs : List ℤ) (sum : ℤ) (left : List ℤ) : Type 0 where
   pub all : sum +ℤ total left ≡ total xs
   pub summing : Summing 1000 sum left
 
-pub reading_none : (xs : List ℤ) → checked xs ≡ Ok tt → Reading xs (pos 0) (backward xs)
+pub reading_none : (xs : List ℤ) → checked xs ≡ Ok tt → Reading xs (pos 0) (reverse xs)
 reading_none xs ok = record { all = let same = total_backward xs in omega (arith, ints); summing = summing_none 1000 xs ok }
 
 pub reading_all : (xs : List ℤ) (sum : ℤ) (left : List ℤ) → Reading xs sum left → left ≡ [] → sum ≡ total xs

@@ -1,12 +1,12 @@
-use Rattle.std.proofs.Common.{◌≡◌, pos, ◌+ℤ◌, subst, arith, w32, to_z, of_z}
+use Rattle.std.proofs.Common.{reverse, ◌≡◌, pos, ◌+ℤ◌, subst, arith, w32, to_z, of_z}
 use Rattle.std.proofs.lemmas.Int.{ints}
-use Rattle.charts.specs.Scores.{backward, listed, to_come}
+use Rattle.charts.specs.Scores.{listed, to_come}
 use Rattle.walk.proofs.TotalLaws.{Reading, reading_none, reading_all, reading_fits, reading_more}
 use Rattle.walk.proofs.total.Goals as goal
 
 pub loop-score-init : goal.loop-score-init
 loop-score-init c =
-    let all : backward (listed c.args.scores) ≡ to_come c.into_iter-score-iterator.result = cc in
+    let all : reverse (listed c.args.scores) ≡ to_come c.into_iter-score-iterator.result = cc in
     subst (Reading (listed c.args.scores) (pos 0)) all (reading_none _ c.requires)
 
 pub loop-score-preserved : goal.loop-score-preserved

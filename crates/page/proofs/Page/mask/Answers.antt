@@ -1,6 +1,6 @@
-use Rattle.std.proofs.Common.{◌≡◌, pos, ◌+ℤ◌, ◌-ℤ◌, sym, ◌∙◌, subst, arith, w32, to_z, of_z}
+use Rattle.std.proofs.Common.{reverse, ◌≡◌, pos, ◌+ℤ◌, ◌-ℤ◌, sym, ◌∙◌, subst, arith, w32, to_z, of_z}
 use Rattle.std.proofs.lemmas.Int.{ints, to_z-of_z}
-use Rattle.charts.specs.Scores.{backward, listed, to_come}
+use Rattle.charts.specs.Scores.{listed, to_come}
 use Rattle.page.proofs.MaskLaws.{Reading, reading_none, reading_fits, reading_more, reading_alarms}
 use Rattle.page.proofs.Page.mask.Goals.{After-excess-sum}
 use Rattle.page.proofs.Page.mask.Goals as goal
@@ -8,7 +8,7 @@ use Rattle.page.proofs.Page.mask.Goals as goal
 pub loop-score-init : goal.loop-score-init
 loop-score-init c =
     let self = c.args.self.now in
-    let all : backward (listed c.args.scores) ≡ to_come c.into_iter-score-iterator.result = cc in
+    let all : reverse (listed c.args.scores) ≡ to_come c.into_iter-score-iterator.result = cc in
     subst (Reading self.h self.k self.s0 (listed c.args.scores) (pos 0)) all (reading_none self.h self.k self.s0 _ c.requires)
 
 -- what the score adds
