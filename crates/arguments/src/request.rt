@@ -6,7 +6,7 @@ use page::Page;
 use scoring::Count;
 use shewhart::Shewhart;
 
-#[derive(Debug, Drop, PartialEq)]
+#[derive(Debug, Drop, PartialEq, Eq)]
 pub struct Request {
     pub source: Count,
     pub chart: Pair<Page, Shewhart>,

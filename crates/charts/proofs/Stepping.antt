@@ -3,7 +3,7 @@ use Rattle.std.proofs.Common.{◌≡◌, ℕ, ◌<◌, Bool, true, false, cond, 
 use Rattle.std.proofs.lemmas.Bool.{ltb-true, lt-ltb, and_parts, and_from}
 use Rattle.std.specs.Option.{ok_or}
 use Rattle.common.specs.Score.{is_score, Score}
-use Rattle.charts.specs.Answers.{admitted, size_of, started, stepped, taken, looked}
+use Rattle.charts.specs.Answers.{checked_step, size_of, started, stepped, taken, looked}
 use Rattle.charts.specs.Scores.{checked}
 use Rattle.charts.specs.declared.chart.Size.{Size}
 use Rattle.charts.specs.declared.fault.ChartFault.{ChartFault}
@@ -45,8 +45,8 @@ stepped_ok size next word s x n e b k =
     ap (λ o. stepped o next word s x) e ∙ ap (λ t. cond {A = Result (ℕ × ℕ) ChartFault} t (Ok (next s x, word s x)) (Err OutOfRange)) (and_from (ltb s n) (is_score x) (lt-ltb s n b) k)
 
 -- a step that is taken is from a state below the size, by a score
-pub admitted_is : (n s : ℕ) (x : ℤ) (ok : Unit {0}) → admitted n s x ≡ Ok ok → (s < n) × Score x
-admitted_is n s x ok e = (grind arith, grind arith)
+pub checked_step_is : (n s : ℕ) (x : ℤ) (ok : Unit {0}) → checked_step n s x ≡ Ok ok → (s < n) × Score x
+checked_step_is n s x ok e = (grind arith, grind arith)
 
 -- a word that is answered is the look-back word, of a list that passes the check
 pub looked_is : (size : Option ℕ) (look : List ℤ → ℕ) (xs : List ℤ) (w : ℕ) → looked size look xs ≡ Ok w → (w ≡ look xs) × (checked xs ≡ Ok tt)

@@ -1,6 +1,6 @@
 // The trait of control charts. A chart means its ghost members; whatever is built on charts is proved against them alone.
 ghost use Rattle.std.specs.Prelude.{◌≡◌, ℕ, List, ℤ, Option};
-ghost use Rattle.charts.specs.Answers.{admitted, leaf_size, size_of, started, stepped, looked};
+ghost use Rattle.charts.specs.Answers.{checked_step, leaf_size, size_of, started, stepped, looked};
 ghost use Rattle.charts.specs.Model.{Lawful};
 ghost use Rattle.charts.specs.Scores.{listed};
 
@@ -9,7 +9,7 @@ use crate::scores::Scores;
 use common::is_score;
 
 // How many states a chart has, and how many leaves.
-#[derive(Clone, Copy, Debug, PartialEq)]
+#[derive(Clone, Copy, Debug, PartialEq, Eq)]
 pub struct Size {
     pub states: u32,
     pub leaves: u32,
@@ -25,8 +25,8 @@ impl Size {
 
     // Whether a chart of this size steps from this state by this score: refusal 6 where the state is not below the size, or
     // the number is no score.
-    pub fn admit(&self, state: u32, score: i16) -> Result<(), ChartFault>
-        ensures { result ≡ admitted self.now.states state score }
+    pub fn check(&self, state: u32, score: i16) -> Result<(), ChartFault>
+        ensures { result ≡ checked_step self.now.states state score }
     {
         if state < self.states && is_score(score.into()) {
             Ok(())

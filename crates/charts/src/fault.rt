@@ -4,7 +4,7 @@ ghost use Rattle.charts.specs.Faults.{chart_refusal, setting_refusal};
 use common::{Fault, Refusal};
 
 // Why a step or a look-back is declined.
-#[derive(Clone, Copy, Debug, PartialEq)]
+#[derive(Clone, Copy, Debug, PartialEq, Eq)]
 pub enum ChartFault {
     // the chart has no size
     NoSize,
@@ -27,7 +27,7 @@ impl Fault for ChartFault {
 }
 
 // Why a leaf cannot be made.
-#[derive(Clone, Copy, Debug, PartialEq)]
+#[derive(Clone, Copy, Debug, PartialEq, Eq)]
 pub enum SettingFault {
     // a setting out of its range
     OutOfRange,

@@ -8,7 +8,7 @@ ghost use Rattle.combined.specs.PairLaws.{pair_lawful};
 
 use charts::{Chart, ChartFault, Scores, Size};
 
-#[derive(Debug, Drop, PartialEq)]
+#[derive(Debug, Drop, PartialEq, Eq)]
 pub struct Pair<A, B> {
     pub first: A,
     pub second: B,
@@ -79,7 +79,7 @@ impl<A: Chart, B: Chart> Chart for Pair<A, B> {
 
     fn step(&self, state: u32, score: i16) -> Result<(u32, u16), ChartFault> {
         let sizes = self.sized()?;
-        sizes.pair.admit(state, score)?;
+        sizes.pair.check(state, score)?;
         let states = sizes.second.states;
         let (first_next, first_word) = self.first.step(state / states, score)?;
         let (second_next, second_word) = self.second.step(state % states, score)?;

@@ -4,12 +4,9 @@
 mod counts;
 mod report;
 
-use combined::Pair;
+use arguments::Request;
 use counts::counts_of;
-use page::Page;
 use report::look;
-use scoring::Count;
-use shewhart::Shewhart;
 use std::alloc::Global;
 
 pub const LOOKBACK_HELP: &str = "\
@@ -27,13 +24,12 @@ whether Page's rule or the Shewhart limit alarms on the last morning.
 Example: printf '102\\n100\\n103\\n107\\n' | lookback count 100 page 10 1 4 shewhart 6
 ";
 
-// What `lookback` prints for this column of counts, or why it declines.
+// What `lookback` prints for this request and this column of counts, or why it declines.
 pub fn report_of(
     heap: Global,
-    source: &Count,
-    chart: &Pair<Page, Shewhart>,
+    request: &Request,
     column: &[u8],
 ) -> anyhow::Result<String> {
-    let report = look(heap, source, chart, counts_of(heap, column)?)?;
+    let report = look(heap, request, counts_of(heap, column)?)?;
     Ok(format!(in heap; "{report}")?)
 }

@@ -40,5 +40,5 @@ fn answer(rt: &HostRuntime, words: &[String]) -> anyhow::Result<String> {
         column.len() as u64 <= MOST,
         "the input is longer than a megabyte"
     );
-    report_of(heap, &request.source, &request.chart, &column)
+    report_of(heap, &request, &column)
 }

@@ -16,7 +16,7 @@ mod tests {
             .map(|word| String::from_str(heap, word))
             .try_collect(heap)?;
         let request = request_of(&words)?;
-        report_of(heap, &request.source, &request.chart, input)
+        report_of(heap, &request, input)
     }
 
     // The same, or its complaint after a `!`.

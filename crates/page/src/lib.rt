@@ -15,7 +15,7 @@ ghost use Rattle.page.specs.PageLaws.{page_lawful};
 use charts::{Chart, ChartFault, Scores, SettingFault, Size};
 use common::is_score;
 
-#[derive(Clone, Copy, Debug, PartialEq)]
+#[derive(Clone, Copy, Debug, PartialEq, Eq)]
 pub struct Page {
     h: u16,
     k: i16,
@@ -109,7 +109,7 @@ impl Chart for Page {
     }
 
     fn step(&self, state: u32, score: i16) -> Result<(u32, u16), ChartFault> {
-        self.extent().admit(state, score)?;
+        self.extent().check(state, score)?;
         Ok(self.settle(state as i32 + self.excess(score)))
     }
 

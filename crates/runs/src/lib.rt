@@ -18,7 +18,7 @@ use common::is_score;
 // No mark is set.
 const START: u32 = 0;
 
-#[derive(Clone, Copy, Debug, PartialEq)]
+#[derive(Clone, Copy, Debug, PartialEq, Eq)]
 pub struct Runs {
     t: u8,
     m: u8,
@@ -107,7 +107,7 @@ impl Chart for Runs {
     }
 
     fn step(&self, state: u32, score: i16) -> Result<(u32, u16), ChartFault> {
-        self.extent().admit(state, score)?;
+        self.extent().check(state, score)?;
         Ok(self.settle(state, score))
     }
 

@@ -6,7 +6,7 @@ use crate::fault::SourceFault;
 use crate::source::Source;
 use common::is_score;
 
-#[derive(Clone, Copy, Debug, PartialEq)]
+#[derive(Clone, Copy, Debug, PartialEq, Eq)]
 pub struct Count {
     pub centre: u16,
 }

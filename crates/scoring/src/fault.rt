@@ -34,7 +34,7 @@ impl Fault for SourceFault {
 }
 
 // Why a source cannot be made.
-#[derive(Clone, Copy, Debug, PartialEq)]
+#[derive(Clone, Copy, Debug, PartialEq, Eq)]
 pub enum SourceSettingFault {
     // a setting that is not finite, or out of its range
     OutOfRange,

@@ -16,7 +16,7 @@ const STATES: u32 = 1;
 
 const START: u32 = 0;
 
-#[derive(Clone, Copy, Debug, PartialEq)]
+#[derive(Clone, Copy, Debug, PartialEq, Eq)]
 pub struct Shewhart {
     c: i16,
     ghost limit: { is_score c ≡ true },
@@ -58,7 +58,7 @@ impl Chart for Shewhart {
     }
 
     fn step(&self, state: u32, score: i16) -> Result<(u32, u16), ChartFault> {
-        Size::of_leaf(STATES).admit(state, score)?;
+        Size::of_leaf(STATES).check(state, score)?;
         Ok((START, (score > self.c).into()))
     }
 

@@ -21,9 +21,6 @@ pub record Reading (xs : List ℤ) (sum : ℤ) (left : List ℤ) : Type 0 where
 pub reading_none : (xs : List ℤ) → checked xs ≡ Ok tt → Reading xs (pos 0) (reverse xs)
 reading_none xs ok = record { all = let same = total_backward xs in omega (arith, ints); summing = summing_none 1000 xs ok }
 
-pub reading_all : (xs : List ℤ) (sum : ℤ) (left : List ℤ) → Reading xs sum left → left ≡ [] → sum ≡ total xs
-reading_all xs sum left reading none = let all = reading.all in let rest = ap total none in omega (arith, ints)
-
 -- x is the next of those left
 module _ (xs : List ℤ) (sum x : ℤ) (left rest : List ℤ) (reading : Reading xs sum left) (next : left ≡ x ∷ rest) where
   pub reading_more : Reading xs (sum +ℤ x) rest

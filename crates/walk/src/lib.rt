@@ -12,7 +12,7 @@ ghost use Rattle.walk.specs.WalkLaws.{walk_lawful};
 
 use charts::{Chart, ChartFault, Scores, SettingFault, Size};
 
-#[derive(Clone, Copy, Debug, PartialEq)]
+#[derive(Clone, Copy, Debug, PartialEq, Eq)]
 pub struct Walk {
     h: u16,
     ghost some: { 1 ≤ h },
@@ -107,7 +107,7 @@ impl Chart for Walk {
     }
 
     fn step(&self, state: u32, score: i16) -> Result<(u32, u16), ChartFault> {
-        self.extent().admit(state, score)?;
+        self.extent().check(state, score)?;
         Ok(self.settle(self.shift(state, score)))
     }
 

@@ -1,7 +1,7 @@
 use Rattle.std.proofs.Common.{reverse, ◌≡◌, pos, ◌+ℤ◌, subst, arith, w32, to_z, of_z}
 use Rattle.std.proofs.lemmas.Int.{ints}
 use Rattle.charts.specs.Scores.{listed, to_come}
-use Rattle.walk.proofs.TotalLaws.{Reading, reading_none, reading_all, reading_fits, reading_more}
+use Rattle.walk.proofs.TotalLaws.{Reading, reading_none, reading_fits, reading_more}
 use Rattle.walk.proofs.total.Goals as goal
 
 pub loop-score-init : goal.loop-score-init
@@ -15,6 +15,3 @@ loop-score-preserved c =
     let bounds = reading_fits _ _ _ _ _ c.loop-score.invariant c.in-Some.ensures.steps in
     let is : to_z w32 c.loop-score.sum-bits +ℤ c.in-Some.score ≡ to_z w32 (of_z w32 (to_z w32 c.loop-score.sum-bits +ℤ to_z w32 (of_z w32 c.from-sum.result))) = omega (arith, ints) in
     subst (λ t. Reading (listed c.args.scores) t (to_come c.next.new.self)) is more
-
-pub returns : goal.returns
-returns c = reading_all _ _ _ c.loop-score.invariant c.in-None.ensures.steps.0

@@ -1,5 +1,5 @@
 use Rattle.std.proofs.Common.{◌+◌, ◌*◌, ◌^◌, ◌<◌, sym, ◌∙◌, arith, w16, to_z, of_z}
-use Rattle.charts.proofs.Stepping.{admitted_is}
+use Rattle.charts.proofs.Stepping.{checked_step_is}
 use Rattle.combined.proofs.PairCode.{first_takes, second_takes, steps_fit, steps_join}
 use Rattle.combined.proofs.pair.PairChart.step.Given.{Over}
 use Rattle.combined.proofs.pair.PairChart.step.Goals as goal
@@ -8,14 +8,14 @@ use Rattle.combined.proofs.pair.PairChart.step.Goals.{Then-word-eq0}
 pub returns-in_err-first_next : goal.returns-in_err-first_next
 returns-in_err-first_next g c =
     let self = c.args.self.now in
-    let taken = admitted_is c.in_ok-sizes.sizes.pair.states c.args.state (to_z w16 (of_z w16 c.args.score)) _ (sym c.admit.ensures ∙ c.in_ok-admit.was) in
+    let taken = checked_step_is c.in_ok-sizes.sizes.pair.states c.args.state (to_z w16 (of_z w16 c.args.score)) _ (sym c.check.ensures ∙ c.in_ok-check.was) in
     absurd (first_takes _ _ (g.met.A.Chart.lawful self.first) (g.met.B.Chart.lawful self.second) _ (sym c.sized.ensures ∙ c.in_ok-sizes.was)
     _ _ _ taken.0 taken.1 (sym c.step.ensures ∙ c.in_err-first_next.was))
 
 pub returns-in_err-second_next : goal.returns-in_err-second_next
 returns-in_err-second_next g c =
     let self = c.args.self.now in
-    let taken = admitted_is c.in_ok-sizes.sizes.pair.states c.args.state (to_z w16 (of_z w16 c.args.score)) _ (sym c.admit.ensures ∙ c.in_ok-admit.was) in
+    let taken = checked_step_is c.in_ok-sizes.sizes.pair.states c.args.state (to_z w16 (of_z w16 c.args.score)) _ (sym c.check.ensures ∙ c.in_ok-check.was) in
     absurd (second_takes _ _ (g.met.A.Chart.lawful self.first) (g.met.B.Chart.lawful self.second) _ (sym c.sized.ensures ∙ c.in_ok-sizes.was)
     _ _ _ taken.0 taken.1 (sym c.step-2.ensures ∙ c.in_err-second_next.was))
 
