@@ -25,11 +25,8 @@ Example: printf '102\\n100\\n103\\n107\\n' | lookback count 100 page 10 1 4 shew
 ";
 
 // What `lookback` prints for this request and this column of counts, or why it declines.
-pub fn report_of(
-    heap: Global,
-    request: &Request,
-    column: &[u8],
-) -> anyhow::Result<String> {
-    let report = look(heap, request, counts_of(heap, column)?)?;
+pub fn report_of(heap: Global, request: &Request, column: &[u8]) -> anyhow::Result<String> {
+    let counts = counts_of(heap, column)?;
+    let report = look(heap, request, &counts)?;
     Ok(format!(in heap; "{report}")?)
 }

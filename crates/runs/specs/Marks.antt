@@ -1,7 +1,7 @@
 -- Marks of scores as the bits of a number, and how many of them are set.
 use Rattle.std.specs.Prelude.{◌≡◌, ℕ, zero, suc, ◌+◌, ◌-◌, ◌*◌, ◌/◌, ◌%◌, ◌^◌, ◌<◌, ◌≤◌, Bool, true, false, List, [], ◌∷◌, ◌++◌, length, drop, ℤ, refl}
 use Rattle.std.proofs.Math.Path.{sym, ap}
-use Rattle.std.proofs.Common.{ap₂, ◌∙◌, add-one, arith, shr_lt}
+use Rattle.std.proofs.Common.{ap₂, ◌∙◌, pow-suc, add-one, arith, shr_lt}
 use Rattle.std.proofs.Math.Nat.{add-mul-mod_self_right}
 use Rattle.std.proofs.Math.Arith.{lt-one}
 use Rattle.std.specs.Int.Count.{ones_in, ones, ones_step}
@@ -59,6 +59,15 @@ twice_low n b d =
     let split = div-add-mod' n d in
     let whole : 2 * (n % d) + b + 2 * (n / d) * d ≡ 2 * n + b = omega arith in
     sym (add-mul-mod_self_right (2 * (n % d) + b) (2 * (n / d)) d) ∙ ap (λ a. a % d) whole
+
+-- the marks of m scores
+pub marked_below : (y : ℤ) (m s : ℕ) (x : ℤ) → 1 ≤ m → s < 2 ^ (m - 1) → marked y s x < 2 ^ m
+marked_below y zero s x some below = absurd (omega arith)
+marked_below y (suc k) s x some below =
+    let less : 2 ^ (suc k - 1) ≡ 2 ^ k = ap (λ j. 2 ^ j) (omega arith) in
+    let twice = pow-suc 2 k in
+    let small = mark_one y x in
+    omega arith
 
 module _ (y : ℤ) where
   pub count_push : (xs : List ℤ) (x : ℤ) → count_in y (xs ++ x ∷ []) ≡ mark y x + count_in y xs

@@ -58,6 +58,7 @@ impl Runs {
 
     // The next state and the word, by the marks of the last m scores: those of the state, moved up, and the score's own in
     // the lowest bit.
+    #[tactic(auto, using(crate::specs::Marks::marked_below))]
     fn settle(&self, state: u32, score: i16) -> (u32, u16)
         requires { state < 2 ^ (self.now.m - 1) }
         ensures next { result.0 ≡ (if reached self.now.t self.now.m (marked self.now.y state score) then 0 else marked self.now.y state score % 2 ^ (self.now.m - 1)) }
