@@ -56,18 +56,6 @@ impl Page {
         sum >= self.h.into()
     }
 
-    // The next state and the word, by the sum.
-    fn settle(&self, sum: i32) -> (u32, u16)
-        ensures next { result.0 ≡ (if int_le (pos self.now.h) sum then self.now.s0 else floored sum) }
-        ensures word { result.1 ≡ bit (int_le (pos self.now.h) sum) }
-    {
-        if self.alarms(sum) {
-            (self.s0.into(), 1)
-        } else {
-            (sum.max(0) as u32, 0)
-        }
-    }
-
     // Whether the V-mask alarms: sums over trailing parts, the shortest first. 4,096 scores change a sum by at most 2,000
     // each.
     fn mask(&self, scores: Scores<'_>) -> bool
@@ -110,7 +98,12 @@ impl Chart for Page {
 
     fn step(&self, state: u32, score: i16) -> Result<(u32, u16), ChartFault> {
         self.extent().check(state, score)?;
-        Ok(self.settle(state as i32 + self.excess(score)))
+        let sum = state.saturating_add_signed(self.excess(score));
+        if sum >= self.h.into() {
+            Ok((self.s0.into(), 1))
+        } else {
+            Ok((sum, 0))
+        }
     }
 
     fn look(&self, scores: Scores<'_>) -> Result<u16, ChartFault> {
