@@ -75,6 +75,7 @@ mod tests {
         sums: &[u32; 39],
     ) -> Result<(), Fail> {
         let mut state = page.start()?;
+        // by place, which the lots so far are cut off at too
         for (i, sum) in sums.iter().enumerate() {
             assert_eq!(rt; page.step(state, lots[i])?, (*sum, 0));
             assert_eq!(rt; look_back_scores(page, &lots[..=i])?, 0);

@@ -1,4 +1,5 @@
 // The trait of control charts. A chart means its ghost members; whatever is built on charts is proved against them alone.
+// Every `impl` writes all of them out: a default of one sees no other.
 ghost use Rattle.std.specs.Prelude.{◌≡◌, ℕ, List, ℤ, Option};
 ghost use Rattle.charts.specs.Answers.{checked_step, leaf_size, size_of, started, stepped, looked};
 ghost use Rattle.charts.specs.Model.{Lawful};

@@ -105,5 +105,6 @@ fn join(low: u16, high: u16, leaves: u32) -> u16
     requires fits { low + 2 ^ leaves * high < 2 ^ 16 }
     ensures { result ≡ low + 2 ^ leaves * high }
 {
+    // a cast that loses nothing, which is proved; `try_from` would add a refusal that never comes
     (u32::from(low) + (u32::from(high) << leaves)) as u16
 }

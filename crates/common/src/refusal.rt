@@ -5,6 +5,7 @@ ghost use Rattle.common.specs.Refusals.{bare, carrying};
 
 #[derive(Clone, Copy, Debug, PartialEq)]
 pub struct Refusal {
+    // a number and no enum: halls and the office know a refusal by it, and the fault beside it is the enum
     pub number: u8,
     pub carried: Option<Carried>,
 }
@@ -42,7 +43,8 @@ impl Refusal {
     }
 }
 
-// Why a call is declined. The refusal is defined over all cases of a fault.
+// Why a call is declined. The refusal is defined over all cases of a fault. No `From` stands in its place: that would use the
+// fault up, and generic code would lose the definition.
 pub trait Fault {
     ghost refusal: { Self → Refusal };
 

@@ -37,6 +37,7 @@ fn answer(rt: &HostRuntime, words: &[String]) -> anyhow::Result<String> {
     let mut column = Vec::new(heap);
     rt.stdin().take(MOST + 1).read_to_end(&mut column)?;
     ensure!(
+        // `u64` has no `From<usize>`
         column.len() as u64 <= MOST,
         "the input is longer than a megabyte"
     );

@@ -2,13 +2,12 @@
 // sum reaches h. Its look-back is Barnard's V-mask, with the headstart added to the sum of the whole list alone.
 #![tactic(auto)]
 
-ghost use Rattle.std.specs.Prelude.{◌≡◌, ◌<◌, ◌≤◌, true, pos, ◌-ℤ◌, if◌then◌else◌, Ok, int_le};
+ghost use Rattle.std.specs.Prelude.{◌≡◌, ◌<◌, ◌≤◌, true, pos, ◌-ℤ◌, Ok, int_le};
 ghost use Rattle.common.specs.Made.{Made};
 ghost use Rattle.common.specs.Score.{is_score};
 ghost use Rattle.charts.specs.Answers.{leaf_size};
 ghost use Rattle.charts.specs.Scores.{listed, checked};
-ghost use Rattle.charts.specs.Words.{bit};
-ghost use Rattle.page.specs.Page.{masked, floored, page};
+ghost use Rattle.page.specs.Page.{masked, page};
 ghost use Rattle.page.specs.Settings.{page_fault};
 ghost use Rattle.page.specs.PageLaws.{page_lawful};
 

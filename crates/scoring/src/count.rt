@@ -21,6 +21,7 @@ impl Source for Count {
     fn score(&self, reading: u16) -> Result<i16, SourceFault> {
         let difference = i32::from(reading) - i32::from(self.centre);
         if is_score(difference) {
+            // a cast that loses nothing, which is proved; `try_from` would add a refusal that never comes
             Ok(difference as i16)
         } else {
             Err(SourceFault::OffCount(difference))

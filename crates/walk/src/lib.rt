@@ -49,6 +49,7 @@ impl Walk {
         requires { state < 2 * self.now.h - 1 }
         ensures { result ≡ moved self.now.h state score }
     {
+        // casts that lose nothing, which is proved; `try_from` would add a refusal that never comes
         state as i32 - self.middle() as i32 + i32::from(score)
     }
 
@@ -66,6 +67,7 @@ impl Walk {
         if self.alarms(total) {
             (self.middle(), 1)
         } else {
+            // casts that lose nothing, as above
             ((total + self.middle() as i32) as u32, 0)
         }
     }
