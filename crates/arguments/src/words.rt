@@ -2,7 +2,7 @@
 use complaints::{Complaint, Place};
 use std::str::FromStr;
 
-#[derive(Clone, Copy, Debug)]
+#[derive(Clone, Debug, Drop)]
 pub struct Words<'a> {
     rest: &'a [String],
     read: usize,
@@ -30,13 +30,15 @@ impl<'a> Words<'a> {
 
     pub fn keyword(&mut self, wanted: &'a str) -> Result<(), Complaint<'a>> {
         let place = self.place();
-        match self.next_word().unwrap_or("") {
-            found if found == wanted => Ok(()),
-            found => Err(Complaint::Unfit {
+        let found = self.next_word().unwrap_or("");
+        if found == wanted {
+            Ok(())
+        } else {
+            Err(Complaint::Unfit {
                 place,
                 wanted,
                 found,
-            }),
+            })
         }
     }
 

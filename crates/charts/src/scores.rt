@@ -54,7 +54,7 @@ impl<'a> Scores<'a> {
 }
 
 // An iterator over scores, from the latest to the oldest.
-#[derive(Clone, Copy, Debug)]
+#[derive(Clone, Debug, Drop)]
 pub struct LatestFirst<'a> {
     left: Scores<'a>,
 }
