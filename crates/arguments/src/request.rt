@@ -6,13 +6,17 @@ use page::Page;
 use scoring::Count;
 use shewhart::Shewhart;
 
-#[derive(Debug, Drop, PartialEq, Eq)]
+#[derive(Clone, Debug, Drop, PartialEq, Eq)]
 pub struct Request {
     pub source: Count,
     pub chart: Pair<Page, Shewhart>,
 }
 
-pub fn request_of(words: &[String]) -> Result<Request, Complaint<'_>> {
+pub fn request_of(words: &[String]) -> anyhow::Result<Request> {
+    Ok(asked(words)?)
+}
+
+fn asked(words: &[String]) -> Result<Request, Complaint<'_>> {
     let mut rest = Words::new(words);
     let source = count_of(&mut rest)?;
     let first = page_of(&mut rest)?;

@@ -5,6 +5,7 @@ use std::str::FromStr;
 #[derive(Clone, Debug, Drop)]
 pub struct Words<'a> {
     rest: &'a [String],
+    // counted beside, since a missing word has a place too
     read: usize,
 }
 
@@ -58,6 +59,7 @@ impl<'a> Words<'a> {
 
     pub fn end(&mut self) -> Result<(), Complaint<'a>> {
         let place = self.place();
+        // what is left is the error, so no method of `Option` hands it on
         match self.next_word() {
             None => Ok(()),
             Some(found) => Err(Complaint::Unfit {

@@ -56,7 +56,8 @@ mod tests {
         -5, 8, -4, -6, -3, 8, 5, -1, 14, 10, 8, 9, 5, 5, 10,
     ];
 
-    // The sums of his upper and lower schemes after each lot, two times.
+    // The sums of his upper and lower schemes after each lot, two times. Columns as he prints them, and not pairs: the last lot
+    // has no sum.
     const ABOVE: [u32; 39] = [
         0, 0, 0, 0, 0, 0, 0, 0, 2, 3, 0, 0, 0, 0, 0, 0, 0, 0, 0, 3, 0, 0, 0, 2, 0, 0, 2, 0, 0, 0,
         2, 1, 0, 8, 12, 14, 17, 16, 15,
@@ -75,7 +76,7 @@ mod tests {
         sums: &[u32; 39],
     ) -> Result<(), Fail> {
         let mut state = page.start()?;
-        // by place, which the lots so far are cut off at too
+        // by place, at which the lots so far are cut off too: zipped, it is no plainer, and wants an invariant
         for (i, sum) in sums.iter().enumerate() {
             assert_eq!(rt; page.step(state, lots[i])?, (*sum, 0));
             assert_eq!(rt; look_back_scores(page, &lots[..=i])?, 0);

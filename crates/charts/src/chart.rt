@@ -26,8 +26,8 @@ impl Size {
 
     // Whether a chart of this size steps from this state by this score: refusal 6 where the state is not below the size, or
     // the number is no score.
-    pub fn check(&self, state: u32, score: i16) -> Result<(), ChartFault>
-        ensures { result ≡ checked_step self.now.states state score }
+    pub fn check(self, state: u32, score: i16) -> Result<(), ChartFault>
+        ensures { result ≡ checked_step self.states state score }
     {
         if state < self.states && is_score(score.into()) {
             Ok(())

@@ -8,13 +8,13 @@ ghost use Rattle.combined.specs.PairLaws.{pair_lawful};
 
 use charts::{Chart, ChartFault, Scores, Size};
 
-#[derive(Debug, Drop, PartialEq, Eq)]
+#[derive(Clone, Debug, Drop, PartialEq, Eq)]
 pub struct Pair<A, B> {
     pub first: A,
     pub second: B,
 }
 
-// The sizes of a pair and of both its charts.
+// The sizes of a pair and of both its charts. They are neither printed nor compared.
 #[derive(Clone, Copy)]
 struct Sizes {
     pair: Size,
@@ -23,7 +23,7 @@ struct Sizes {
 }
 
 impl<A: Chart, B: Chart> Pair<A, B> {
-    // Where the pair has a size.
+    // The sizes of the pair and of both charts, where the pair has one.
     fn sizes(&self) -> Option<Sizes>
         ensures { result ≡ sizes (of A.Chart self.now.first) (of B.Chart self.now.second) }
     {
@@ -43,7 +43,7 @@ impl<A: Chart, B: Chart> Pair<A, B> {
         }
     }
 
-    // The sizes, or refusal 5.
+    // The same, or refusal 5.
     fn sized(&self) -> Result<Sizes, ChartFault>
         ensures { result ≡ ok_or (sizes (of A.Chart self.now.first) (of B.Chart self.now.second)) NoSize }
     {

@@ -5,7 +5,7 @@ ghost use Rattle.common.specs.Refusals.{bare, carrying};
 
 #[derive(Clone, Copy, Debug, PartialEq)]
 pub struct Refusal {
-    // a number and no enum: halls and the office know a refusal by it, and the fault beside it is the enum
+    // one of docs/REFUSALS.md: halls and the office know a refusal by its number, and code matches on the fault
     pub number: u8,
     pub carried: Option<Carried>,
 }
@@ -43,8 +43,8 @@ impl Refusal {
     }
 }
 
-// Why a call is declined. The refusal is defined over all cases of a fault. No `From` stands in its place: that would use the
-// fault up, and generic code would lose the definition.
+// Why a call is declined. The refusal is defined over all cases of a fault. No `From` stands in its place, since
+// generic code would know a relation and not the definition.
 pub trait Fault {
     ghost refusal: { Self → Refusal };
 

@@ -56,7 +56,7 @@ fn nearest_score(quotient: f64) -> Option<i16>
 {
     if -1000.5 < quotient && quotient < 1000.5 {
         let whole = quotient.round();
-        // the cast loses nothing, which is proved, and is asked to (a saturating one would hide a loss); it takes no -0.0
+        // a cast that the check proves to lose nothing; a saturating one would hide a loss. It takes no -0.0
         if whole == 0.0 {
             Some(0)
         } else {

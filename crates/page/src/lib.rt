@@ -20,6 +20,7 @@ pub struct Page {
     k: i16,
     s0: u16,
     ghost few: { h ≤ 4096 },
+    // said here and in two other rules: a type for it would hold a proof, and no definition could write its values out
     ghost reference: { is_score k ≡ true },
     ghost ahead: { s0 < h },
 }

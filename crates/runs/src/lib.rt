@@ -26,6 +26,7 @@ pub struct Runs {
     ghost several: { 2 ≤ t },
     ghost within: { t ≤ m },
     ghost few: { m ≤ 8 },
+    // said here and in two other rules: a type for it would hold a proof, and no definition could write its values out
     ghost level: { is_score y ≡ true },
 }
 

@@ -19,6 +19,7 @@ const START: u32 = 0;
 #[derive(Clone, Copy, Debug, PartialEq, Eq)]
 pub struct Shewhart {
     c: i16,
+    // said here and in two other rules: a type for it would hold a proof, and no definition could write its values out
     ghost limit: { is_score c ≡ true },
 }
 

@@ -49,8 +49,8 @@ impl Walk {
         requires { state < 2 * self.now.h - 1 }
         ensures { result ≡ moved self.now.h state score }
     {
-        // casts that lose nothing, which is proved; `try_from` would add a refusal that never comes
-        state as i32 - self.middle() as i32 + i32::from(score)
+        // a cast that loses nothing, which is proved; `try_from` would add a refusal that never comes
+        state as i32 - (i32::from(self.h) - 1) + i32::from(score)
     }
 
     fn alarms(&self, total: i32) -> bool
@@ -67,8 +67,8 @@ impl Walk {
         if self.alarms(total) {
             (self.middle(), 1)
         } else {
-            // casts that lose nothing, as above
-            ((total + self.middle() as i32) as u32, 0)
+            // a cast that loses nothing, as above
+            ((total + i32::from(self.h) - 1) as u32, 0)
         }
     }
 }
