@@ -6,6 +6,9 @@ ghost use Rattle.charts.specs.Scores.{are_scores, checked, latest, listed, LastO
 use crate::fault::ChartFault;
 use common::is_score;
 
+// The most scores that a look-back takes.
+pub const MOST_SCORES: usize = 4096;
+
 #[derive(Clone, Copy, Debug)]
 pub struct Scores<'a> {
     list: &'a [i16],
@@ -22,7 +25,7 @@ impl<'a> Scores<'a> {
     pub fn check(self) -> Result<(), ChartFault>
         ensures { result ≡ checked (listed self.entry) }
     {
-        if self.list.len() > 4096 {
+        if self.list.len() > MOST_SCORES {
             Err(ChartFault::TooLong)
         } else if are_scores(self.list) {
             Ok(())

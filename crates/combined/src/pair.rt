@@ -67,7 +67,7 @@ impl<A: Chart, B: Chart> Chart for Pair<A, B> {
     ghost lawful = { λ c. pair_lawful _ _ (A.Chart.lawful c.first) (B.Chart.lawful c.second) };
 
     fn size(&self) -> Option<Size> {
-        Some(self.sizes()?.pair)
+        self.sizes().map(|sizes| sizes.pair)
     }
 
     fn start(&self) -> Result<u32, ChartFault> {
