@@ -16,6 +16,7 @@ pub enum Place {
     Line(usize),
 }
 
+// Written by hand, as the next one is: of what a derived one prints no contract says anything.
 impl fmt::Display for Place {
     ghost output = { λ place. Some (place_text place) };
 

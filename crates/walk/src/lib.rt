@@ -67,8 +67,7 @@ impl Walk {
         if self.alarms(total) {
             (self.middle(), 1)
         } else {
-            // a cast that loses nothing, as above
-            ((total + i32::from(self.h) - 1) as u32, 0)
+            (self.middle().saturating_add_signed(total), 0)
         }
     }
 }
