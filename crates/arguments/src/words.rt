@@ -1,63 +1,72 @@
-// The words of the command line, read one after the other. Places count from 1.
-use complaints::unfit;
-use std::alloc::Global;
+// The words of the command line, read one after the other.
+use complaints::{Complaint, Place};
 use std::str::FromStr;
 
-#[derive(Drop)]
+#[derive(Clone, Debug, Drop)]
 pub struct Words<'a> {
-    words: &'a [String],
-    place: usize,
+    rest: &'a [String],
+    // counted beside, since a missing word has a place too
+    read: usize,
 }
 
 impl<'a> Words<'a> {
     pub fn new(words: &'a [String]) -> Words<'a> {
-        Words { words, place: 0 }
-    }
-
-    // The place of the word that was read last.
-    pub fn place(&self) -> usize {
-        self.place
-    }
-
-    // The next word; none is as an empty one.
-    fn next_word(&mut self) -> &'a str {
-        let at = self.place;
-        if at >= self.words.len() {
-            return "";
+        Words {
+            rest: words,
+            read: 0,
         }
-        self.place = at + 1;
-        self.words[at].as_str()
     }
 
-    pub fn keyword(&mut self, heap: Global, what: &str) -> anyhow::Result<()> {
-        let place = self.place.saturating_add(1);
-        let word = self.next_word();
-        if word == what {
+    // The place of the next word.
+    pub fn place(&self) -> Place {
+        Place::Argument(self.read.saturating_add(1))
+    }
+
+    fn next_word(&mut self) -> Option<&'a str> {
+        let (word, rest) = self.rest.split_first()?;
+        self.rest = rest;
+        self.read = self.read.saturating_add(1);
+        Some(word.as_str())
+    }
+
+    pub fn keyword(&mut self, wanted: &'a str) -> Result<(), Complaint<'a>> {
+        let place = self.place();
+        let found = self.next_word().unwrap_or("");
+        if found == wanted {
             Ok(())
         } else {
-            Err(unfit(heap, "argument", place, what, word)?)
+            Err(Complaint::Unfit {
+                place,
+                wanted,
+                found,
+            })
         }
     }
 
-    // The next word as a number, which is to be `what`.
-    pub fn number<N: FromStr>(&mut self, heap: Global, what: &str) -> anyhow::Result<N>
+    // The next word as a number, which is to be `wanted`.
+    pub fn number<N: FromStr>(&mut self, wanted: &'a str) -> Result<N, Complaint<'a>>
     where
         N::Err: Drop,
     {
-        let place = self.place.saturating_add(1);
-        let word = self.next_word();
-        match word.parse::<N>() {
-            Ok(n) => Ok(n),
-            Err(_) => Err(unfit(heap, "argument", place, what, word)?),
-        }
+        let place = self.place();
+        let found = self.next_word().unwrap_or("");
+        found.parse().map_err(|_| Complaint::Unfit {
+            place,
+            wanted,
+            found,
+        })
     }
 
-    pub fn end(&mut self, heap: Global) -> anyhow::Result<()> {
-        let place = self.place.saturating_add(1);
-        if place > self.words.len() {
-            return Ok(());
+    pub fn end(&mut self) -> Result<(), Complaint<'a>> {
+        let place = self.place();
+        // what is left is the error, so no method of `Option` hands it on
+        match self.next_word() {
+            None => Ok(()),
+            Some(found) => Err(Complaint::Unfit {
+                place,
+                wanted: "the end",
+                found,
+            }),
         }
-        let word = self.next_word();
-        Err(unfit(heap, "argument", place, "the end", word)?)
     }
 }

@@ -56,7 +56,8 @@ mod tests {
         -5, 8, -4, -6, -3, 8, 5, -1, 14, 10, 8, 9, 5, 5, 10,
     ];
 
-    // The sums of his upper and lower schemes after each lot, two times.
+    // The sums of his upper and lower schemes after each lot, two times. Columns as he prints them, and not pairs: the last lot
+    // has no sum.
     const ABOVE: [u32; 39] = [
         0, 0, 0, 0, 0, 0, 0, 0, 2, 3, 0, 0, 0, 0, 0, 0, 0, 0, 0, 3, 0, 0, 0, 2, 0, 0, 2, 0, 0, 0,
         2, 1, 0, 8, 12, 14, 17, 16, 15,
@@ -75,12 +76,11 @@ mod tests {
         sums: &[u32; 39],
     ) -> Result<(), Fail> {
         let mut state = page.start()?;
+        // by place, at which the lots so far are cut off too: zipped, it is no plainer, and wants an invariant
         for (i, sum) in sums.iter().enumerate() {
-            let (next, word) = page.step(state, lots[i])?;
-            assert_eq!(rt; word, 0);
-            assert_eq!(rt; next, *sum);
-            assert_eq!(rt; look_back_scores(page, &lots[..i + 1])?, 0);
-            state = next;
+            assert_eq!(rt; page.step(state, lots[i])?, (*sum, 0));
+            assert_eq!(rt; look_back_scores(page, &lots[..=i])?, 0);
+            state = *sum;
         }
         Ok(())
     }
@@ -92,10 +92,7 @@ mod tests {
         assert_eq!(rt; above.step(15, LOTS[39])?, (4, 1));
         assert_eq!(rt; look_back_scores(&above, &LOTS)?, 1);
         let below = Page::new(10, 4, 2)?;
-        let mut opposite = LOTS;
-        for lot in opposite.iter_mut() {
-            *lot = lot.wrapping_neg();
-        }
+        let opposite = LOTS.map(|lot| lot.wrapping_neg());
         check_sums(&rt, &below, &opposite, &BELOW)?;
         assert_eq!(rt; look_back_scores(&below, &opposite)?, 0);
         Ok(())

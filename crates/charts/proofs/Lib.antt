@@ -1,4 +1,5 @@
 pub mod Backward
+pub mod LeafLaws
 pub mod Lists
 pub mod Looking
 pub mod Running

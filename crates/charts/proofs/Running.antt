@@ -1,14 +1,11 @@
 -- Stepping through a list of scores.
-use Rattle.std.proofs.Common.{◌≡◌, ℕ, ◌<◌, List, [], ◌∷◌, ◌++◌, ℤ, sym, refl, ap, ◌∙◌}
+use Rattle.std.proofs.Common.{◌≡◌, ℕ, ◌<◌, List, [], ◌∷◌, ◌++◌, ℤ, sym, ap, ◌∙◌}
 use Rattle.std.specs.List.{AllByRecursion}
 use Rattle.std.proofs.lemmas.List.{append_assoc, append-nil}
+use Rattle.std.proofs.lemmas.List.Sums.{fold_push}
 use Rattle.common.specs.Score.{Score}
 use Rattle.charts.proofs.Lists.{snoc_ind}
 use Rattle.charts.specs.Model.{Model, Sized, Quiet, run}
-
-pub run_push : (next : ℕ → ℤ → ℕ) (s : ℕ) (xs : List ℤ) (x : ℤ) → run next s (xs ++ x ∷ []) ≡ next (run next s xs) x
-run_push next s [] x = refl
-run_push next s (y ∷ ys) x = run_push next (next s y) ys x
 
 -- the states on the way are below the size
 pub run_below : (m : Model) (n : ℕ) → Sized m n → (s : ℕ) → s < n → (xs : List ℤ) → AllByRecursion Score xs → run m.next s xs < n
@@ -43,6 +40,6 @@ run_tracks m state none more = snoc_ind (λ xs. AllByRecursion Score xs → Quie
     on xs x before k quiet =
         let scores = all_before xs x k in
         let earlier = quiet_before m.look xs x quiet in
-        run_push m.next m.start xs x
+        fold_push m.next m.start xs x
         ∙ ap (λ s. m.next s x) (before scores earlier)
         ∙ more xs x scores (all_last xs x k) earlier (quiet_whole m.look xs x quiet)

@@ -6,7 +6,7 @@
 --   Sized    start and next states are below the size; words, looked back too, are below 2 to the leaves;
 --            after a word other than 0 the next state is the start; stepping a list from the start ends with
 --            its look-back word, if every shorter beginning has look-back word 0
-use Rattle.std.specs.Prelude.{◌≡◌, ℕ, ◌^◌, ◌<◌, ◌≤◌, List, [], ◌∷◌, ◌++◌, ℤ, Some, Option, ◌≢◌}
+use Rattle.std.specs.Prelude.{◌≡◌, ℕ, ◌^◌, ◌<◌, ◌≤◌, List, [], ◌∷◌, ◌++◌, ℤ, Some, Option, fold, ◌≢◌}
 use Rattle.std.specs.List.{AllByRecursion}
 use Rattle.common.specs.Score.{Score}
 
@@ -19,8 +19,7 @@ pub record Model : Type 0 where
   pub look : List ℤ → ℕ
 
 abbrev pub run : (ℕ → ℤ → ℕ) → ℕ → List ℤ → ℕ
-run next s [] = s
-run next s (x ∷ xs) = run next (next s x) xs
+run next s xs = fold next s xs
 
 abbrev pub Quiet : (List ℤ → ℕ) → List ℤ → Type 0
 Quiet look xs = (front back : List ℤ) → front ++ back ≡ xs → look front ≡ 0

@@ -1,17 +1,40 @@
 // The trait of control charts. A chart means its ghost members; whatever is built on charts is proved against them alone.
+// Every `impl` writes all of them out: a default of one sees no other.
 ghost use Rattle.std.specs.Prelude.{◌≡◌, ℕ, List, ℤ, Option};
-ghost use Rattle.charts.specs.Answers.{size_of, started, stepped, looked};
+ghost use Rattle.charts.specs.Answers.{checked_step, leaf_size, size_of, started, stepped, looked};
 ghost use Rattle.charts.specs.Model.{Lawful};
 ghost use Rattle.charts.specs.Scores.{listed};
 
 use crate::fault::ChartFault;
 use crate::scores::Scores;
+use common::is_score;
 
 // How many states a chart has, and how many leaves.
-#[derive(Clone, Copy)]
+#[derive(Clone, Copy, Debug, PartialEq, Eq)]
 pub struct Size {
     pub states: u32,
     pub leaves: u32,
+}
+
+impl Size {
+    // The size of one leaf with this many states.
+    pub fn of_leaf(states: u32) -> Size
+        ensures { result ≡ leaf_size states }
+    {
+        Size { states, leaves: 1 }
+    }
+
+    // Whether a chart of this size steps from this state by this score: refusal 6 where the state is not below the size, or
+    // the number is no score.
+    pub fn check(self, state: u32, score: i16) -> Result<(), ChartFault>
+        ensures { result ≡ checked_step self.states state score }
+    {
+        if state < self.states && is_score(score.into()) {
+            Ok(())
+        } else {
+            Err(ChartFault::OutOfRange)
+        }
+    }
 }
 
 pub trait Chart {

@@ -1,10 +1,10 @@
 // Why a chart declines.
 ghost use Rattle.charts.specs.Faults.{chart_refusal, setting_refusal};
 
-use common::{Carried, Fault, Refusal};
+use common::{Fault, Refusal};
 
 // Why a step or a look-back is declined.
-#[derive(Clone, Copy, Debug, PartialEq)]
+#[derive(Clone, Copy, Debug, PartialEq, Eq)]
 pub enum ChartFault {
     // the chart has no size
     NoSize,
@@ -18,20 +18,16 @@ impl Fault for ChartFault {
     ghost refusal = { chart_refusal };
 
     fn refusal(&self) -> Refusal {
-        let number = match self {
+        Refusal::bare(match self {
             ChartFault::NoSize => 5,
             ChartFault::OutOfRange => 6,
             ChartFault::TooLong => 15,
-        };
-        Refusal {
-            number,
-            carried: Carried::Nothing,
-        }
+        })
     }
 }
 
 // Why a leaf cannot be made.
-#[derive(Clone, Copy, Debug, PartialEq)]
+#[derive(Clone, Copy, Debug, PartialEq, Eq)]
 pub enum SettingFault {
     // a setting out of its range
     OutOfRange,
@@ -42,10 +38,7 @@ impl Fault for SettingFault {
 
     fn refusal(&self) -> Refusal {
         match self {
-            SettingFault::OutOfRange => Refusal {
-                number: 4,
-                carried: Carried::Nothing,
-            },
+            SettingFault::OutOfRange => Refusal::bare(4),
         }
     }
 }

@@ -8,5 +8,5 @@ mod word;
 
 pub use chart::{Chart, Size};
 pub use fault::{ChartFault, SettingFault};
-pub use scores::Scores;
+pub use scores::{LatestFirst, MOST_SCORES, Scores};
 pub use word::alarms;

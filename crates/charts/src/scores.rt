@@ -1,11 +1,15 @@
 // The scores that a look-back reads, the oldest first. A look-back copies none of them.
-ghost use Rattle.std.specs.Prelude.{◌≡◌};
-ghost use Rattle.charts.specs.Scores.{are_scores, listed, checked, latest, LastOf};
+ghost use Rattle.std.specs.Prelude.{◌≡◌, reverse};
+ghost use Rattle.std.specs.Iterator.{YieldsFirst, item_count};
+ghost use Rattle.charts.specs.Scores.{are_scores, checked, latest, listed, LastOf, to_come};
 
 use crate::fault::ChartFault;
 use common::is_score;
 
-#[derive(Clone, Copy)]
+// The most scores that a look-back takes.
+pub const MOST_SCORES: usize = 4096;
+
+#[derive(Clone, Copy, Debug)]
 pub struct Scores<'a> {
     list: &'a [i16],
 }
@@ -21,10 +25,9 @@ impl<'a> Scores<'a> {
     pub fn check(self) -> Result<(), ChartFault>
         ensures { result ≡ checked (listed self.entry) }
     {
-        if self.list.len() > 4096 {
-            return Err(ChartFault::TooLong);
-        }
-        if are_scores(self.list) {
+        if self.list.len() > MOST_SCORES {
+            Err(ChartFault::TooLong)
+        } else if are_scores(self.list) {
             Ok(())
         } else {
             Err(ChartFault::OutOfRange)
@@ -35,44 +38,46 @@ impl<'a> Scores<'a> {
     pub fn split_last(self) -> Option<(i16, Scores<'a>)>
         ensures { LastOf listed (listed self.entry) result }
     {
-        match split_end(self.list) {
-            Some((last, before)) => Some((last, Scores { list: before })),
-            None => None,
-        }
+        let (last, list) = self.list.split_last()?;
+        Some((*last, Scores { list }))
     }
 
     pub fn latest(self) -> Option<i16>
         ensures { result ≡ latest (listed self.entry) }
     {
-        last_of(self.list)
+        self.list.last().copied()
+    }
+
+    // The scores one by one, the latest first.
+    pub fn latest_first(self) -> LatestFirst<'a>
+        ensures { to_come result ≡ reverse (listed self.entry) }
+    {
+        LatestFirst { left: self }
+    }
+}
+
+// An iterator over scores, from the latest to the oldest.
+#[derive(Clone, Debug, Drop)]
+pub struct LatestFirst<'a> {
+    left: Scores<'a>,
+}
+
+impl Iterator for LatestFirst<'_> {
+    type Item = i16;
+
+    ghost next_gives = { YieldsFirst to_come };
+
+    ghost remaining = { item_count to_come };
+
+    fn next(&mut self) -> Option<i16> {
+        let (score, before) = self.left.split_last()?;
+        self.left = before;
+        Some(score)
     }
 }
 
 fn are_scores(list: &[i16]) -> bool
     ensures { result ≡ are_scores list.now }
 {
-    for x in list {
-        if !is_score(*x as i32) {
-            return false;
-        }
-    }
-    true
-}
-
-fn split_end(list: &[i16]) -> Option<(i16, &[i16])>
-    ensures { LastOf (λ x. x.now) list.now result }
-{
-    match list {
-        [] => None,
-        [before @ .., last] => Some((*last, before)),
-    }
-}
-
-fn last_of(list: &[i16]) -> Option<i16>
-    ensures { result ≡ latest list.now }
-{
-    match split_end(list) {
-        Some((last, _)) => Some(last),
-        None => None,
-    }
+    list.iter().all(|x| is_score(i32::from(*x)))
 }

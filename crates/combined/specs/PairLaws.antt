@@ -8,7 +8,8 @@ use Rattle.std.proofs.lemmas.Bool.{leb-true, eq-eqb, ne_eqb, and_parts}
 use Rattle.common.specs.Score.{Score}
 use Rattle.charts.specs.Model.{Model, Lawful, Sized, Quiet, run}
 use Rattle.charts.proofs.Lists.{snoc_ind}
-use Rattle.charts.proofs.Running.{run_push, run_below, quiet_before, quiet_whole, all_before, all_last}
+use Rattle.std.proofs.lemmas.List.Sums.{fold_push}
+use Rattle.charts.proofs.Running.{run_below, quiet_before, quiet_whole, all_before, all_last}
 use Rattle.combined.specs.Pair.{product, states, pair_word, pair_start, word_at, pair}
 
 -- what a pair's size tells
@@ -28,11 +29,11 @@ parts a b n e = go a.size b.size refl refl e
     known p q f s true t e =
         let both = and_parts (nat_le (p * q) 65536) (nat_le (a.leaves + b.leaves) 16) t in
         record { p = p; q = q; first = f; second = s; is = cc; few = leb-true _ _ both.0; narrow = leb-true _ _ both.1 }
-    known p q f s false t e = let z : ◌≡◌ {A = ℕ} 0 1 = cc in absurd (omega arith)
+    known p q f s false t e = cc
 
     go : (x y : Option ℕ) → a.size ≡ x → b.size ≡ y → product x y (a.leaves + b.leaves) ≡ Some n → Parts a b n
-    go None y f s e = let z : ◌≡◌ {A = ℕ} 0 1 = cc in absurd (omega arith)
-    go (Some p) None f s e = let z : ◌≡◌ {A = ℕ} 0 1 = cc in absurd (omega arith)
+    go None y f s e = cc
+    go (Some p) None f s e = cc
     go (Some p) (Some q) f s e = known p q f s _ refl e
 
 -- a word is 0 only where both its parts are
@@ -136,11 +137,11 @@ module _ (a b : Model) (la : Lawful a) (lb : Lawful b) (n : ℕ) (d : Parts a b 
           let t = run b.next b.start xs in
           let below = second_below t (run_below b d.q sized_second b.start sized_second.start_below xs kb) in
           let none = word_at_last xs x kb (all_last xs x k) qb here ∙ quiet_whole (pair a b).look xs x quiet in
-          run_push (pair a b).next (pair_start a b) xs x
+          fold_push (pair a b).next (pair_start a b) xs x
           ∙ goes_on (run (pair a b).next (pair_start a b) xs) x none
           ∙ ap (λ s. a.next (s / states b) x * states b + b.next (s % states b) x) here
           ∙ ap₂ (λ u v. a.next u x * states b + b.next v x) (div-mul-add r (states b) t below) (mod-mul-add r (states b) t below)
-          ∙ sym (ap₂ (λ u v. u * states b + v) (run_push a.next a.start xs x) (run_push b.next b.start xs x))
+          ∙ sym (ap₂ (λ u v. u * states b + v) (fold_push a.next a.start xs x) (fold_push b.next b.start xs x))
 
   pair_sized : Sized (pair a b) n
   pair_sized = record {

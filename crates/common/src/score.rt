@@ -5,5 +5,5 @@ ghost use Rattle.common.specs.Score.{is_score};
 pub fn is_score(x: i32) -> bool
     ensures { result ≡ is_score x }
 {
-    -1000 <= x && x <= 1000
+    (-1000..=1000).contains(&x)
 }

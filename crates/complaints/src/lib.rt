@@ -1,26 +1,81 @@
-// Why a program declines, in one line.
+// Why a program declines what it is given, in one line.
 #![tactic(auto)]
 
-use std::alloc::{AllocError, Global};
+ghost use Rattle.std.specs.Prelude.{◌≡◌, Some};
+ghost use Rattle.complaints.specs.Texts.{complaint_text, place_text};
+ghost use Rattle.complaints.specs.declared.Complaint.TheVariants.{Refused};
 
-// What stands at this place, and what is to stand there.
-pub fn unfit(
-    heap: Global,
-    at: &str,
-    place: usize,
-    what: &str,
-    found: &str,
-) -> Result<anyhow::Error, AllocError> {
-    Ok(anyhow::Error::msg(format!(in heap; "{at} {place} is to be {what}, and is '{found}'")?))
+use common::{Fault, Refusal};
+use std::error::Error;
+use std::fmt;
+
+// Where the cause stands; places count from 1.
+#[derive(Clone, Copy, Debug, PartialEq, Eq)]
+pub enum Place {
+    Argument(usize),
+    Line(usize),
 }
 
-// The number of a refusal, and the rule that was broken at this place.
-pub fn refused(
-    heap: Global,
-    number: u8,
-    at: &str,
-    place: usize,
-    rule: &str,
-) -> Result<anyhow::Error, AllocError> {
-    Ok(anyhow::Error::msg(format!(in heap; "refusal {number} at {at} {place}: {rule}")?))
+// Written by hand, as the next one is: of what a derived one prints no contract says anything.
+impl fmt::Display for Place {
+    ghost output = { λ place. Some (place_text place) };
+
+    fn fmt<W: fmt::Write>(&self, f: &mut fmt::Formatter<W>) -> fmt::Result {
+        match self {
+            Place::Argument(place) => write!(f, "argument {place}"),
+            Place::Line(place) => write!(f, "line {place}"),
+        }
+    }
 }
+
+#[derive(Clone, Copy, Debug, PartialEq)]
+pub enum Complaint<'a> {
+    // what stands at the place is not what is to stand there
+    Unfit {
+        place: Place,
+        wanted: &'a str,
+        found: &'a str,
+    },
+    // a call declines what stands at the place, by the rule that it breaks
+    Refused {
+        refusal: Refusal,
+        place: Place,
+        rule: &'a str,
+    },
+}
+
+impl<'a> Complaint<'a> {
+    pub fn refused<F: Fault>(fault: &F, place: Place, rule: &'a str) -> Complaint<'a>
+        ensures { result ≡ Refused (F.refusal fault.now) place rule.entry }
+    {
+        Complaint::Refused {
+            refusal: fault.refusal(),
+            place,
+            rule,
+        }
+    }
+}
+
+impl fmt::Display for Complaint<'_> {
+    ghost output = { λ complaint. Some (complaint_text complaint) };
+
+    fn fmt<W: fmt::Write>(&self, f: &mut fmt::Formatter<W>) -> fmt::Result {
+        match self {
+            Complaint::Unfit {
+                place,
+                wanted,
+                found,
+            } => write!(f, "{place} is to be {wanted}, and is '{found}'"),
+            Complaint::Refused {
+                refusal,
+                place,
+                rule,
+            } => {
+                let number = refusal.number;
+                write!(f, "refusal {number} at {place}: {rule}")
+            }
+        }
+    }
+}
+
+impl Error for Complaint<'_> {}

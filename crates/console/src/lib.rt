@@ -4,12 +4,9 @@
 mod counts;
 mod report;
 
-use combined::Pair;
+use arguments::Request;
 use counts::counts_of;
-use page::Page;
-use report::{look, text_of};
-use scoring::Count;
-use shewhart::Shewhart;
+use report::look;
 use std::alloc::Global;
 
 pub const LOOKBACK_HELP: &str = "\
@@ -27,14 +24,9 @@ whether Page's rule or the Shewhart limit alarms on the last morning.
 Example: printf '102\\n100\\n103\\n107\\n' | lookback count 100 page 10 1 4 shewhart 6
 ";
 
-// What `lookback` prints for this column of counts, or why it declines.
-pub fn report_of(
-    heap: Global,
-    source: &Count,
-    chart: &Pair<Page, Shewhart>,
-    column: &[u8],
-) -> anyhow::Result<String> {
+// What `lookback` prints for this request and this column of counts, or why it declines.
+pub fn report_of(heap: Global, request: &Request, column: &[u8]) -> anyhow::Result<String> {
     let counts = counts_of(heap, column)?;
-    let report = look(heap, source, chart, counts.as_slice())?;
-    text_of(heap, counts.as_slice(), &report)
+    let report = look(heap, request, &counts)?;
+    Ok(format!(in heap; "{report}")?)
 }

@@ -10,7 +10,7 @@ ghost use Rattle.gauges.specs.GaugesLaws.{gauges_within};
 use scoring::{Source, SourceFault, SourceSettingFault, admit, is_in_range};
 
 // The limits, from the lowest, and the scores: a next to the middle, b at the ends.
-#[derive(Clone, Copy)]
+#[derive(Clone, Copy, Debug, PartialEq)]
 pub struct Gauges {
     p: f64,
     q: f64,

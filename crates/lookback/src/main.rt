@@ -1,7 +1,7 @@
 // lookback: whether Page's rule or the Shewhart limit alarms on the last morning of a column of counts, and which of them.
 #![tactic(auto)]
 
-use anyhow::anyhow;
+use anyhow::ensure;
 use arguments::request_of;
 use console::{LOOKBACK_HELP, report_of};
 use std::env;
@@ -24,22 +24,22 @@ fn main(rt: HostRuntime) -> anyhow::Result<ExitCode> {
 fn run(rt: &HostRuntime) -> anyhow::Result<()> {
     let heap = rt.alloc();
     let words: Vec<String> = env::args(rt)?.skip(1).collect(heap)?;
-    if asks_help(words.as_slice()) {
-        return Ok(rt.print(LOOKBACK_HELP)?);
+    match words.as_slice() {
+        [word] if word.as_str() == "--help" => Ok(rt.print(LOOKBACK_HELP)?),
+        words => Ok(rt.print(answer(rt, words)?)?),
     }
-    let request = request_of(heap, words.as_slice())?;
-    let mut input = Vec::new(heap);
-    rt.stdin().take(MOST + 1).read_to_end(&mut input)?;
-    if input.len() as u64 > MOST {
-        return Err(anyhow!("the input is longer than a megabyte"));
-    }
-    let text = report_of(heap, &request.source, &request.chart, input.as_slice())?;
-    Ok(rt.print(text)?)
 }
 
-fn asks_help(words: &[String]) -> bool {
-    match words {
-        [word] => word.as_str() == "--help",
-        _ => false,
-    }
+// What it prints for these words and the column on standard input.
+fn answer(rt: &HostRuntime, words: &[String]) -> anyhow::Result<String> {
+    let heap = rt.alloc();
+    let request = request_of(words)?;
+    let mut column = Vec::new(heap);
+    rt.stdin().take(MOST + 1).read_to_end(&mut column)?;
+    ensure!(
+        // `u64` has no `From<usize>`
+        column.len() as u64 <= MOST,
+        "the input is longer than a megabyte"
+    );
+    report_of(heap, &request, &column)
 }

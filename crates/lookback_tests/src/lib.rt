@@ -5,26 +5,23 @@
 mod tests {
     use arguments::request_of;
     use console::report_of;
-    use std::alloc::Global;
+    use std::alloc::{AllocError, Global};
     use std::process::Abort;
     use std::test::Fail;
 
     // What `lookback` prints.
     fn printed(heap: Global, arguments: &str, input: &[u8]) -> anyhow::Result<String> {
-        let mut words = Vec::new(heap);
-        for word in arguments.split_whitespace() {
-            words.push(String::from_str(heap, word)?)?;
-        }
-        let request = request_of(heap, words.as_slice())?;
-        report_of(heap, &request.source, &request.chart, input)
+        let words: Vec<String> = arguments
+            .split_whitespace()
+            .map(|word| String::from_str(heap, word))
+            .try_collect(heap)?;
+        let request = request_of(&words)?;
+        report_of(heap, &request, input)
     }
 
     // The same, or its complaint after a `!`.
-    fn answer(heap: Global, arguments: &str, input: &[u8]) -> anyhow::Result<String> {
-        match printed(heap, arguments, input) {
-            Ok(text) => Ok(text),
-            Err(error) => Ok(format!(in heap; "!{error}")?),
-        }
+    fn answer(heap: Global, arguments: &str, input: &[u8]) -> Result<String, AllocError> {
+        printed(heap, arguments, input).or_else(|error| format!(in heap; "!{error}"))
     }
 
     struct Case {
@@ -156,10 +153,7 @@ mod tests {
     #[test]
     fn longest(rt: HostRuntime) -> Result<(), Fail> {
         let heap = rt.alloc();
-        let mut column = String::new(heap);
-        for _ in 0..4096 {
-            column.push_str("100\n")?;
-        }
+        let mut column = "100\n".repeat(heap, 4096)?;
         let text = answer(heap, GOOD, column.as_bytes())?;
         assert!(rt;
             text.as_str().ends_with(

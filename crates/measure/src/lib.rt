@@ -13,7 +13,7 @@ use scoring::{Source, SourceFault, SourceSettingFault, admit, is_in_range};
 // 1/1024
 const LEAST_UNIT: f64 = 0.0009765625;
 
-#[derive(Clone, Copy)]
+#[derive(Clone, Copy, Debug, PartialEq)]
 pub struct Measure {
     target: f64,
     unit: f64,
@@ -56,7 +56,7 @@ fn nearest_score(quotient: f64) -> Option<i16>
 {
     if -1000.5 < quotient && quotient < 1000.5 {
         let whole = quotient.round();
-        // a cast takes no -0.0
+        // a cast that the check proves to lose nothing; a saturating one would hide a loss. It takes no -0.0
         if whole == 0.0 {
             Some(0)
         } else {

@@ -1,86 +1,66 @@
--- The V-mask, read from the end of a list.
-use Rattle.std.proofs.Common.{◌≡◌, ℕ, ◌+◌, ◌*◌, ◌≤◌, Bool, true, false, ◌||◌, List, [], ◌∷◌, ◌++◌, length, ℤ, pos, negsuc, ◌+ℤ◌, ◌-ℤ◌, ◌≤ℤ◌, sym, refl, ap, ◌∙◌, arith}
-use lib.Signed.{le_z}
-use Rattle.std.proofs.lemmas.List.{append_assoc, append-nil, length-append}
+-- The V-mask, read backward from the latest score.
+use Rattle.std.proofs.Common.{reverse, ◌≡◌, ℕ, Bool, true, false, ◌||◌, List, [], ◌∷◌, ◌++◌, ℤ, pos, negsuc, ◌+ℤ◌, ◌-ℤ◌, ◌≤ℤ◌, int_le, Ok, sym, ap, ◌∙◌, subst, arith}
+use Rattle.std.specs.List.{list_any}
+use Rattle.std.proofs.Math.Bool.{or_comm, or-false}
+use Rattle.std.proofs.lemmas.List.{reverse-append, append_assoc, append-nil}
 use Rattle.std.proofs.lemmas.Int.{ints}
-use Rattle.std.proofs.lemmas.Bool.{and_parts, or_left, or_right, or_from}
 use Rattle.common.specs.Score.{is_score}
 use Rattle.common.proofs.ScoreLaws.{score_within}
-use Rattle.charts.specs.Scores.{are_scores}
-use Rattle.charts.proofs.Looking.{are_scores_parts}
-use Rattle.page.specs.Page.{excess, trailing_parts, any_of, masked}
+use Rattle.charts.specs.Scores.{checked}
+use Rattle.charts.proofs.Backward.{Summing, read_backward, summing_none, summing_bounds, summing_score, summing_more}
+use Rattle.page.specs.Page.{excess, trailing_parts, masked}
 
-abbrev trailing : ℕ → ℤ → List ℤ → Bool
-trailing h k xs = any_of (λ part. le_z (pos h) (excess k part)) (trailing_parts xs)
+module _ (h : ℕ) (k : ℤ) (s0 : ℕ) where
+  -- the mask over scores still to come, the latest first, with the excess of those before them
+  abbrev pub mask_on : ℤ → List ℤ → Bool
+  mask_on sum [] = int_le (pos h) (pos s0 +ℤ sum)
+  mask_on sum (x ∷ xs) = int_le (pos h) (sum +ℤ (x -ℤ k)) || mask_on (sum +ℤ (x -ℤ k)) xs
 
--- a trailing part that alarms makes the list alarm
-part_alarms : (h : ℕ) (k : ℤ) (front : List ℤ) (x : ℤ) (part : List ℤ) → le_z (pos h) (excess k (x ∷ part)) ≡ true → trailing h k (front ++ (x ∷ part)) ≡ true
-part_alarms h k [] x part high = or_left _ _ high
-part_alarms h k (y ∷ front) x part high = or_right _ _ (part_alarms h k front x part high)
+  abbrev trailing : List ℤ → Bool
+  trailing xs = list_any (λ part. int_le (pos h) (excess k part)) (trailing_parts xs)
 
--- the list xs, of which the part `seen` at the end is done, and no trailing part of that alarms
-pub record Seen (h : ℕ) (k : ℤ) (xs earlier : List ℤ) (sum : ℤ) : Type 0 where
-  pub seen : List ℤ
-  pub parts : earlier ++ seen ≡ xs
-  pub sum_is : sum ≡ excess k seen
-  pub quiet : any_of (λ part. le_z (pos h) (excess k part)) (trailing_parts seen) ≡ false
+  same_sum : (x : ℤ) (ys : List ℤ) → excess k ys +ℤ (x -ℤ k) ≡ excess k (x ∷ ys)
+  same_sum x ys = omega (arith, ints)
 
-pub seen_none : (h : ℕ) (k : ℤ) (xs : List ℤ) → Seen h k xs xs (pos 0)
-seen_none h k xs = record { seen = []; parts = append-nil xs; sum_is = refl; quiet = refl }
+  regroup : (a b c : Bool) → ((a || b) || c) ≡ (b || (a || c))
+  regroup a b c = grind arith
 
--- x is the latest of the earlier scores, and t the sum with it
-module _ (h : ℕ) (k : ℤ) (xs earlier before : List ℤ) (x sum t : ℤ) (s : Seen h k xs earlier sum) (last : earlier ≡ before ++ x ∷ []) (is : t ≡ sum +ℤ (x -ℤ k)) where
-  more_is : t ≡ excess k (x ∷ s.seen)
-  more_is = let e = s.sum_is in omega (arith, ints)
+  -- with the scores `ys` read
+  mask_rest : (xs ys : List ℤ) → (mask_on (excess k ys) xs || trailing ys) ≡ masked h k s0 (reverse xs ++ ys)
+  mask_rest [] ys = or_comm (int_le (pos h) (pos s0 +ℤ excess k ys)) (trailing ys)
+  mask_rest (x ∷ xs) ys =
+      ap (λ sum. (int_le (pos h) sum || mask_on sum xs) || trailing ys) (same_sum x ys)
+      ∙ regroup (int_le (pos h) (excess k (x ∷ ys))) (mask_on (excess k (x ∷ ys)) xs) (trailing ys)
+      ∙ mask_rest xs (x ∷ ys)
+      ∙ ap (masked h k s0) (sym (append_assoc (reverse xs) (x ∷ []) ys) ∙ ap (λ l. l ++ ys) (sym (reverse-append (x ∷ []) xs)))
 
-  more_parts : before ++ (x ∷ s.seen) ≡ xs
-  more_parts = sym (append_assoc before (x ∷ []) s.seen) ∙ sym (ap (λ l. l ++ s.seen) last) ∙ s.parts
+  mask_is : (xs : List ℤ) → mask_on (pos 0) (reverse xs) ≡ masked h k s0 xs
+  mask_is = read_backward (mask_on (pos 0)) (masked h k s0) (λ xs. sym (or-false (mask_on (pos 0) xs)) ∙ mask_rest xs [] ∙ ap (masked h k s0) (append-nil (reverse xs)))
 
-  -- it is quiet
-  pub seen_more : le_z (pos h) t ≡ false → Seen h k xs before t
-  seen_more low = record {
-    seen = x ∷ s.seen;
-    parts = more_parts;
-    sum_is = more_is;
-    quiet = or_from _ _ (sym (ap (le_z (pos h)) more_is) ∙ low) s.quiet;
-  }
+  -- the list xs, with the sum of the scores read so far, none of which alarmed, and those left, the latest first
+  pub record Reading (xs : List ℤ) (sum : ℤ) (left : List ℤ) : Type 0 where
+    pub mask : mask_on sum left ≡ masked h k s0 xs
+    pub summing : Summing 2000 sum left
 
-  -- it alarms
-  pub seen_alarm : (s0 : ℕ) → le_z (pos h) t ≡ true → masked h k s0 xs ≡ true
-  seen_alarm s0 high =
-      or_left _ _ (sym (ap (trailing h k) more_parts) ∙ part_alarms h k before x s.seen (sym (ap (le_z (pos h)) more_is) ∙ high))
+  pub reading_none : (xs : List ℤ) → checked xs ≡ Ok tt → Reading xs (pos 0) (reverse xs)
+  reading_none xs ok = record { mask = mask_is xs; summing = summing_none 2000 xs ok }
 
--- every trailing part is quiet, so the whole list with the headstart decides
-pub seen_all : (h : ℕ) (k : ℤ) (s0 : ℕ) (xs earlier : List ℤ) (sum : ℤ) → Seen h k xs earlier sum → earlier ≡ [] → masked h k s0 xs ≡ le_z (pos h) (pos s0 +ℤ sum)
-seen_all h k s0 xs earlier sum s none =
-    sym (ap (masked h k s0) (sym (ap (λ l. l ++ s.seen) none) ∙ s.parts))
-    ∙ ap (λ b. b || le_z (pos h) (pos s0 +ℤ excess k s.seen)) s.quiet
-    ∙ sym (ap (λ z. le_z (pos h) (pos s0 +ℤ z)) s.sum_is)
+  -- x is the latest of those left, and t the sum with it
+  module _ (xs : List ℤ) (sum x t : ℤ) (left rest : List ℤ) (reference : is_score k ≡ true) (reading : Reading xs sum left) (next : left ≡ x ∷ rest) (is : t ≡ sum +ℤ (x -ℤ k)) where
+    summing : Summing 2000 t rest
+    summing =
+        let score = summing_score 2000 sum x left rest reading.summing next in
+        let setting = score_within k reference in
+        subst (λ u. Summing 2000 u rest) (sym is) (summing_more 2000 sum x left rest reading.summing next (x -ℤ k) (omega (arith, ints)) (omega (arith, ints)))
 
--- the excess of a list of scores
-excess_within : (k : ℤ) (xs : List ℤ) → is_score k ≡ true → are_scores xs ≡ true → (excess k xs ≤ℤ pos (2000 * length xs)) × (pos 0 ≤ℤ (excess k xs +ℤ pos (2000 * length xs)))
-excess_within k [] r q = (omega (arith, ints), omega (arith, ints))
-excess_within k (x ∷ xs) r q =
-    let both = and_parts (is_score x) (are_scores xs) q in
-    let rest = excess_within k xs r both.1 in
-    let one = score_within x both.0 in
-    let reference = score_within k r in
-    (omega (arith, ints), omega (arith, ints))
+    decides : (int_le (pos h) t || mask_on t rest) ≡ masked h k s0 xs
+    decides = ap (λ u. int_le (pos h) u || mask_on u rest) is ∙ sym (ap (mask_on sum) next) ∙ reading.mask
 
-module _ (h : ℕ) (k : ℤ) (xs earlier : List ℤ) (sum : ℤ) (scores : are_scores xs ≡ true) (s : Seen h k xs earlier sum) where
-  parts_scores : (are_scores earlier ≡ true) × (are_scores s.seen ≡ true)
-  parts_scores = are_scores_parts earlier s.seen (ap are_scores s.parts ∙ scores)
+    pub reading_fits : (negsuc 8191999 ≤ℤ t) × (t ≤ℤ pos 8192000)
+    reading_fits = summing_bounds 2000 t rest summing
 
-  -- the latest of the earlier scores
-  pub seen_score : (before : List ℤ) (x : ℤ) → earlier ≡ before ++ x ∷ [] → is_score x ≡ true
-  seen_score before x e =
-      let last = (are_scores_parts before (x ∷ []) (sym (ap are_scores e) ∙ parts_scores.0)).1 in
-      (and_parts (is_score x) true last).0
+    pub reading_more : int_le (pos h) t ≡ false → Reading xs t rest
+    reading_more quiet = record { mask = sym (ap (λ b. b || mask_on t rest) quiet) ∙ decides; summing = summing }
 
-  -- the sum stays far within 32 bits
-  pub seen_within : is_score k ≡ true → length xs ≤ 4096 → (negsuc 8191999 ≤ℤ sum) × (sum ≤ℤ pos 8192000)
-  seen_within reference few =
-      let bounds = excess_within k s.seen reference parts_scores.1 in
-      let whole : length earlier + length s.seen ≡ length xs = sym (length-append earlier s.seen) ∙ ap length s.parts in
-      let is = s.sum_is in
-      (omega (arith, ints), omega (arith, ints))
+    pub reading_alarms : int_le (pos h) t ≡ true → true ≡ masked h k s0 xs
+    reading_alarms alarm = sym (ap (λ b. b || mask_on t rest) alarm) ∙ decides

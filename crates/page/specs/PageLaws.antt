@@ -1,12 +1,12 @@
 -- The laws of Page's cumulative sum. The V-mask from any state s in the place of the headstart: a score that does not
 -- alarm moves it to the next state (`shift`), so stepping and looking back agree by induction from the front.
-use Rattle.std.specs.Prelude.{◌≡◌, ℕ, ◌<◌, ◌≤◌, Bool, true, false, cond, ◌||◌, List, [], ◌∷◌, ◌++◌, ℤ, pos, negsuc, ◌+ℤ◌, ◌-ℤ◌, ◌≢◌, int_le, refl}
-use Rattle.std.proofs.Common.{sym, ap, ◌∙◌, subst, arith}
+use Rattle.std.specs.Prelude.{◌≡◌, ℕ, ◌<◌, ◌≤◌, Bool, false, cond, ◌||◌, List, [], ◌∷◌, ◌++◌, ℤ, pos, negsuc, ◌+ℤ◌, ◌-ℤ◌, int_le, refl}
+use Rattle.std.proofs.Common.{sym, ap, ◌∙◌, arith}
 use Rattle.std.proofs.lemmas.Int.{ints}
 use Rattle.charts.specs.Model.{Lawful, run}
-use Rattle.charts.specs.Words.{bit}
+use Rattle.charts.proofs.LeafLaws.{leaf_lawful}
+use Rattle.charts.proofs.WordLaws.{bit_none}
 use Rattle.page.specs.Page.{excess, masked, raised, floored, page}
-use Rattle.charts.proofs.WordLaws.{bit_below, bit_none}
 
 -- d is what the first score adds, e the excess of the rest, t whether a shorter trailing part alarms
 shift_sums : (h s : ℕ) (d e : ℤ) (t : Bool) (sum : ℤ) → pos s +ℤ d ≡ sum → int_le (pos h) sum ≡ false
@@ -57,24 +57,10 @@ module _ (h : ℕ) (k : ℤ) where
       later s x low below xs quiet (y ∷ ys) back e = sym (shift s x y ys low) ∙ quiet (x ∷ (y ∷ ys)) back (ap (λ zs. x ∷ zs) e)
 
 pub page_lawful : (h : ℕ) (k : ℤ) (s0 : ℕ) → h ≤ 4096 → s0 < h → Lawful (page h k s0)
-page_lawful h k s0 few ahead = record {
-  look_none = ap bit (none_alarm h k s0 ahead);
-  sized = λ n e. let same : n ≡ h = cc in record {
-    few = omega arith;
-    narrow = omega arith;
-    start_below = omega arith;
-    next_below = λ s x b q. subst (λ m. (page h k s0).next s x < m) (sym same) (settled_below (int_le (pos h) (raised k s x)) (raised k s x) refl);
-    word_below = λ s x b q. bit_below (int_le (pos h) (raised k s x));
-    look_below = λ xs q. bit_below (masked h k s0 xs);
-    restarts = λ s x b q w. started (int_le (pos h) (raised k s x)) (floored (raised k s x)) w;
-    agrees = λ before last q r quiet. ap bit (agree h k s0 s0 ahead before last (λ front back e. bit_none (masked h k s0 front) (quiet front back e)));
-  };
-}
-  where
-    settled_below : (b : Bool) (sum : ℤ) → int_le (pos h) sum ≡ b → cond b s0 (floored sum) < h
-    settled_below true sum e = ahead
-    settled_below false sum e = floored_below h k sum (omega arith) e
-
-    started : (b : Bool) (n : ℕ) → (bit b ≢ 0) → cond b s0 n ≡ s0
-    started true n w = refl
-    started false n w = absurd (w refl)
+page_lawful h k s0 few ahead = leaf_lawful _ _ _ _ _ (record {
+  few = omega arith;
+  start_below = ahead;
+  next_below = λ s x b q low. floored_below h k (raised k s x) (omega arith) low;
+  look_none = none_alarm h k s0 ahead;
+  agrees = λ before last q r quiet. agree h k s0 s0 ahead before last (λ front back e. bit_none (masked h k s0 front) (quiet front back e));
+})

@@ -2,24 +2,25 @@
 // sum reaches h. Its look-back is Barnard's V-mask, with the headstart added to the sum of the whole list alone.
 #![tactic(auto)]
 
-ghost use Rattle.std.specs.Prelude.{◌≡◌, ◌<◌, ◌≤◌, true, pos, negsuc, ◌+ℤ◌, ◌-ℤ◌, ◌≤ℤ◌, if◌then◌else◌, Ok, int_le};
+ghost use Rattle.std.specs.Prelude.{◌≡◌, ◌<◌, ◌≤◌, true, pos, ◌-ℤ◌, Ok, int_le};
 ghost use Rattle.common.specs.Made.{Made};
 ghost use Rattle.common.specs.Score.{is_score};
+ghost use Rattle.charts.specs.Answers.{leaf_size};
 ghost use Rattle.charts.specs.Scores.{listed, checked};
-ghost use Rattle.charts.specs.Words.{bit};
-ghost use Rattle.page.specs.Page.{masked, floored, page};
+ghost use Rattle.page.specs.Page.{masked, page};
 ghost use Rattle.page.specs.Settings.{page_fault};
 ghost use Rattle.page.specs.PageLaws.{page_lawful};
 
 use charts::{Chart, ChartFault, Scores, SettingFault, Size};
 use common::is_score;
 
-#[derive(Clone, Copy)]
+#[derive(Clone, Copy, Debug, PartialEq, Eq)]
 pub struct Page {
     h: u16,
     k: i16,
     s0: u16,
     ghost few: { h ≤ 4096 },
+    // said here and in two other rules: a type for it would hold a proof, and no definition could write its values out
     ghost reference: { is_score k ≡ true },
     ghost ahead: { s0 < h },
 }
@@ -28,58 +29,47 @@ impl Page {
     pub fn new(h: u16, k: i16, s0: u16) -> Result<Page, SettingFault>
         ensures { Made (page_fault h k s0) (λ p. (p.h ≡ h) × (p.k ≡ k) × (p.s0 ≡ s0)) result }
     {
-        if 1 <= h && h <= 4096 && is_score(k as i32) && s0 < h {
+        if (1..=4096).contains(&h) && is_score(k.into()) && s0 < h {
             Ok(Page { h, k, s0 })
         } else {
             Err(SettingFault::OutOfRange)
         }
     }
 
-    // What a score makes of a sum. 4,096 scores change a sum by at most 2,000 each.
-    fn raise(&self, sum: i32, score: i16) -> i32
-        requires low { negsuc 8191999 ≤ℤ sum }
-        requires high { sum ≤ℤ pos 8192000 }
-        requires score { is_score score ≡ true }
-        ensures { result ≡ sum +ℤ (score -ℤ self.now.k) }
+    // A state for each sum below h.
+    fn extent(&self) -> Size
+        ensures { result ≡ leaf_size self.now.h }
     {
-        sum + (score as i32 - self.k as i32)
+        Size::of_leaf(self.h.into())
+    }
+
+    // What a score adds to a sum.
+    fn excess(&self, score: i16) -> i32
+        ensures { result ≡ score -ℤ self.now.k }
+    {
+        i32::from(score) - i32::from(self.k)
     }
 
     fn alarms(&self, sum: i32) -> bool
         ensures { result ≡ int_le (pos self.now.h) sum }
     {
-        sum >= self.h as i32
+        sum >= self.h.into()
     }
 
-    // The next state and the word, by the sum.
-    fn settle(&self, sum: i32) -> (u32, u16)
-        ensures next { result.0 ≡ (if int_le (pos self.now.h) sum then self.now.s0 else floored sum) }
-        ensures word { result.1 ≡ bit (int_le (pos self.now.h) sum) }
-    {
-        if self.alarms(sum) {
-            (self.s0 as u32, 1)
-        } else if sum >= 0 {
-            (sum as u32, 0)
-        } else {
-            (0, 0)
-        }
-    }
-
-    // Whether the V-mask alarms: sums over trailing parts, the shortest first.
+    // Whether the V-mask alarms: sums over trailing parts, the shortest first. 4,096 scores change a sum by at most 2,000
+    // each.
     fn mask(&self, scores: Scores<'_>) -> bool
         requires { checked (listed scores) ≡ Ok tt }
         ensures { result ≡ masked self.now.h self.now.k self.now.s0 (listed scores.entry) }
     {
-        let mut earlier = scores;
         let mut sum = 0;
-        while let Some((score, before)) = earlier.split_last() {
-            sum = self.raise(sum, score);
+        for score in scores.latest_first() {
+            sum += self.excess(score);
             if self.alarms(sum) {
                 return true;
             }
-            earlier = before;
         }
-        self.alarms(self.s0 as i32 + sum)
+        self.alarms(i32::from(self.s0) + sum)
     }
 }
 
@@ -99,26 +89,25 @@ impl Chart for Page {
     ghost lawful = { λ p. page_lawful p.h p.k p.s0 p.few p.ahead };
 
     fn size(&self) -> Option<Size> {
-        Some(Size {
-            states: self.h as u32,
-            leaves: 1,
-        })
+        Some(self.extent())
     }
 
     fn start(&self) -> Result<u32, ChartFault> {
-        Ok(self.s0 as u32)
+        Ok(self.s0.into())
     }
 
     fn step(&self, state: u32, score: i16) -> Result<(u32, u16), ChartFault> {
-        if state < self.h as u32 && is_score(score as i32) {
-            Ok(self.settle(self.raise(state as i32, score)))
+        self.extent().check(state, score)?;
+        let sum = state.saturating_add_signed(self.excess(score));
+        if sum >= self.h.into() {
+            Ok((self.s0.into(), 1))
         } else {
-            Err(ChartFault::OutOfRange)
+            Ok((sum, 0))
         }
     }
 
     fn look(&self, scores: Scores<'_>) -> Result<u16, ChartFault> {
         scores.check()?;
-        Ok(self.mask(scores) as u16)
+        Ok(self.mask(scores).into())
     }
 }

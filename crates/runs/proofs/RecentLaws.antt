@@ -1,46 +1,31 @@
 -- The last scores of a list, counted from its end.
-use Rattle.std.proofs.Common.{◌≡◌, ℕ, ◌+◌, ◌-◌, ◌≤◌, List, [], ◌∷◌, ◌++◌, length, drop, ℤ, sym, refl, ap, ◌∙◌, arith, drop_at}
-use Rattle.charts.proofs.Backward.{parts_length, parts_more}
+use Rattle.std.proofs.Common.{reverse, ◌≡◌, ℕ, ◌+◌, ◌-◌, Bool, true, false, leb, List, [], ◌∷◌, ◌++◌, length, take, drop, ℤ, sym, refl, ap, ◌∙◌, arith}
+use Rattle.std.proofs.lemmas.Bool.{leb-true, leb-false}
+use Rattle.std.proofs.lemmas.List.{length-reverse, length-drop, reverse-append, take_at, take_all, take-append-drop}
+use Rattle.runs.specs.Marks.{count_cons, count_push}
 use Rattle.runs.specs.Runs.{mark, count_in, last_scores}
-use Rattle.runs.specs.Marks.{mark_one}
 
--- the list xs, of which the part `seen` at the end is counted
-pub record Seen (y : ℤ) (xs earlier : List ℤ) (count places : ℕ) : Type 0 where
-  pub seen : List ℤ
-  pub parts : earlier ++ seen ≡ xs
-  pub long : length seen ≡ places
-  pub count_is : count ≡ count_in y seen
+module _ (y : ℤ) where
+  count_backward : (xs : List ℤ) → count_in y (reverse xs) ≡ count_in y xs
+  count_backward [] = refl
+  count_backward (x ∷ xs) = ap (count_in y) (reverse-append (x ∷ []) xs) ∙ count_push y (reverse xs) x ∙ ap (λ n. mark y x + n) (count_backward xs) ∙ sym (count_cons y x xs)
 
-count_few : (y : ℤ) (xs : List ℤ) → count_in y xs ≤ length xs
-count_few y [] = omega arith
-count_few y (x ∷ xs) = let one = mark_one y x in let rest = count_few y xs in omega arith
+  -- the first m of a list read backward are the last m
+  take_backward : (m : ℕ) (xs : List ℤ) → take m (reverse xs) ≡ reverse (last_scores m xs)
+  take_backward m xs =
+      let parts = ap reverse (sym (take-append-drop (length xs - m) xs)) ∙ reverse-append (take (length xs - m) xs) (last_scores m xs) in
+      go (leb m (length xs)) refl parts
+    where
+      go : (b : Bool) → leb m (length xs) ≡ b → reverse xs ≡ reverse (last_scores m xs) ++ reverse (take (length xs - m) xs) → take m (reverse xs) ≡ reverse (last_scores m xs)
+      go true e parts =
+          let enough = leb-true m (length xs) e in
+          let long = length-reverse (last_scores m xs) in
+          let dropped = length-drop (length xs - m) xs in
+          ap (take m) parts ∙ take_at (reverse (last_scores m xs)) (reverse (take (length xs - m) xs)) m (omega arith)
+      go false e parts =
+          let less = leb-false m (length xs) e in
+          let none : length xs - m ≡ 0 = omega arith in
+          take_all m (reverse xs) (omega (arith, length-reverse xs)) ∙ ap (λ n. reverse (drop n xs)) (sym none)
 
-module _ (y : ℤ) (xs earlier : List ℤ) (count places : ℕ) (s : Seen y xs earlier count places) where
-  -- x is the latest of the earlier scores, and b its mark
-  pub seen_more : (before : List ℤ) (x : ℤ) (b : ℕ) → earlier ≡ before ++ x ∷ [] → b ≡ mark y x → Seen y xs before (count + b) (places + 1)
-  seen_more before x b last is = record {
-    seen = x ∷ s.seen;
-    parts = parts_more xs earlier s.seen s.parts before x last;
-    long = let e = s.long in omega arith;
-    count_is = let e = s.count_is in omega arith;
-  }
-
-  pub seen_few : count ≤ places
-  seen_few = let most = count_few y s.seen in let is = s.count_is in let long = s.long in omega arith
-
-  whole : length earlier + places ≡ length xs
-  whole = ap (λ n. length earlier + n) (sym s.long) ∙ parts_length xs earlier s.seen s.parts
-
-  -- the last m scores are those seen
-  last_seen : (m : ℕ) → length xs - m ≡ length earlier → count ≡ count_in y (last_scores m xs)
-  last_seen m e =
-      s.count_is
-      ∙ ap (count_in y) (sym (drop_at earlier s.seen (length earlier) refl) ∙ ap (drop (length earlier)) s.parts ∙ sym (ap (λ n. drop n xs) e))
-
-  -- m scores are seen
-  pub seen_full : (m : ℕ) → places ≡ m → count ≡ count_in y (last_scores m xs)
-  seen_full m e = let all = whole in last_seen m (omega arith)
-
-  -- no more scores are there
-  pub seen_ended : (m : ℕ) → places ≤ m → earlier ≡ [] → count ≡ count_in y (last_scores m xs)
-  seen_ended m few none = let all = whole in let zero = ap length none in last_seen m (omega arith)
+  pub recent_is : (m : ℕ) (xs : List ℤ) → count_in y (take m (reverse xs)) ≡ count_in y (last_scores m xs)
+  recent_is m xs = ap (count_in y) (take_backward m xs) ∙ count_backward (last_scores m xs)

@@ -9,10 +9,11 @@ use Rattle.std.proofs.Math.Pow.{mod-mod-pow, field}
 use Rattle.std.proofs.Math.Seq.{drop-nil}
 use Rattle.std.proofs.lemmas.Nat.{div-add-mod'}
 use Rattle.std.proofs.lemmas.List.{drop_all, drop-append-le, length_push}
+use Rattle.std.proofs.lemmas.List.Sums.{sum_by-append}
 use Rattle.charts.specs.Model.{run}
 use Rattle.charts.specs.Words.{bit}
 use Rattle.charts.proofs.Lists.{snoc_ind}
-use Rattle.charts.proofs.Running.{run_push}
+use Rattle.std.proofs.lemmas.List.Sums.{fold_push}
 use Rattle.runs.specs.Runs.{mark, count_in, last_scores, marked}
 
 bit_one : (b : Bool) → bit b ≤ 1
@@ -69,9 +70,17 @@ marked_below y (suc k) s x some below =
     omega arith
 
 module _ (y : ℤ) where
-  count_push : (xs : List ℤ) (x : ℤ) → count_in y (xs ++ x ∷ []) ≡ mark y x + count_in y xs
-  count_push [] x = refl
-  count_push (z ∷ zs) x = let rest = count_push zs x in omega arith
+  pub count_push : (xs : List ℤ) (x : ℤ) → count_in y (xs ++ x ∷ []) ≡ mark y x + count_in y xs
+  count_push xs x =
+      let more : count_in y (xs ++ x ∷ []) ≡ count_in y xs + count_in y (x ∷ []) = sum_by-append (mark y) xs (x ∷ []) in
+      let one : count_in y (x ∷ []) ≡ 0 + mark y x = refl in
+      omega arith
+
+  pub count_cons : (x : ℤ) (xs : List ℤ) → count_in y (x ∷ xs) ≡ mark y x + count_in y xs
+  count_cons x xs =
+      let more : count_in y (x ∷ xs) ≡ count_in y (x ∷ []) + count_in y xs = sum_by-append (mark y) (x ∷ []) xs in
+      let one : count_in y (x ∷ []) ≡ 0 + mark y x = refl in
+      omega arith
 
   -- the last m of a list with one more score
   last_push : (m : ℕ) (xs : List ℤ) (x : ℤ) → 1 ≤ m → count_in y (last_scores m (xs ++ x ∷ [])) ≡ mark y x + count_in y (last_scores (m - 1) xs)
@@ -96,7 +105,7 @@ module _ (y : ℤ) where
     where
       on : (xs : List ℤ) (x : ℤ) → ((k : ℕ) → ones_in k (marks xs) ≡ count_in y (last_scores k xs)) → (k : ℕ) → ones_in k (marks (xs ++ x ∷ [])) ≡ count_in y (last_scores k (xs ++ x ∷ []))
       on xs x before zero = sym (ap (count_in y) (drop_all (length (xs ++ x ∷ []) - 0) (xs ++ x ∷ []) (omega arith)))
-      on xs x before (suc k) = ap (ones_in (suc k)) (run_push (marked y) 0 xs x) ∙ marks_push (suc k) xs x (marks xs) (omega arith) (before (suc k - 1))
+      on xs x before (suc k) = ap (ones_in (suc k)) (fold_push (marked y) 0 xs x) ∙ marks_push (suc k) xs x (marks xs) (omega arith) (before (suc k - 1))
 
   pub marks_low : (xs : List ℤ) (k : ℕ) → ones_in k (marks xs % 2 ^ k) ≡ count_in y (last_scores k xs)
   marks_low xs k = ones_low k (marks xs) ∙ marks_count xs k

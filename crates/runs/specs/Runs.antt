@@ -6,8 +6,9 @@
 --   marked        the marks with a score's own as the lowest bit, and those before it moved up
 --   reached       whether at least t of the m lowest marks are set
 --   runs          the chart; its state holds the marks of the last m - 1 scores
-use Rattle.std.specs.Prelude.{ℕ, ◌+◌, ◌-◌, ◌*◌, ◌%◌, ◌^◌, Bool, cond, List, [], ◌∷◌, length, drop, ℤ, Some, int_lt, nat_le}
+use Rattle.std.specs.Prelude.{ℕ, ◌+◌, ◌-◌, ◌*◌, ◌%◌, ◌^◌, Bool, List, length, drop, ℤ, count_by, int_lt, nat_le}
 use Rattle.std.specs.Int.Count.{ones_in}
+use Rattle.charts.specs.Leaf.{leaf}
 use Rattle.charts.specs.Model.{Model}
 use Rattle.charts.specs.Words.{bit}
 
@@ -18,8 +19,7 @@ abbrev pub mark : ℤ → ℤ → ℕ
 mark y x = bit (counts y x)
 
 abbrev pub count_in : ℤ → List ℤ → ℕ
-count_in y [] = 0
-count_in y (x ∷ xs) = mark y x + count_in y xs
+count_in y xs = count_by (counts y) xs
 
 abbrev pub last_scores : ℕ → List ℤ → List ℤ
 last_scores m xs = drop (length xs - m) xs
@@ -31,11 +31,4 @@ abbrev pub reached : ℕ → ℕ → ℕ → Bool
 reached t m marks = nat_le t (ones_in m marks)
 
 abbrev pub runs : ℕ → ℕ → ℤ → Model
-runs t m y = record {
-  size = Some (2 ^ (m - 1));
-  start = 0;
-  leaves = 1;
-  next = λ s x. cond (reached t m (marked y s x)) 0 (marked y s x % 2 ^ (m - 1));
-  word = λ s x. bit (reached t m (marked y s x));
-  look = λ xs. bit (nat_le t (count_in y (last_scores m xs)));
-}
+runs t m y = leaf (2 ^ (m - 1)) 0 (λ s x. reached t m (marked y s x)) (λ s x. marked y s x % 2 ^ (m - 1)) (λ xs. nat_le t (count_in y (last_scores m xs)))

@@ -1,14 +1,15 @@
 -- The laws of the runs rule: after a quiet list the state holds the marks of its last m - 1 scores.
-use Rattle.std.specs.Prelude.{◌≡◌, ℕ, ◌-◌, ◌%◌, ◌^◌, ◌<◌, ◌≤◌, Bool, true, false, cond, leb, List, [], ◌∷◌, ◌++◌, ℤ, nat_le}
-use Rattle.std.proofs.Common.{sym, ap, ◌∙◌, subst, mod-lt, arith, pow_pos, pow_mono}
+use Rattle.std.specs.Prelude.{◌≡◌, ℕ, ◌-◌, ◌%◌, ◌^◌, ◌≤◌, cond, leb, List, [], ◌∷◌, ◌++◌, ℤ, nat_le}
+use Rattle.std.proofs.Common.{sym, ap, ◌∙◌, mod-lt, arith, pow_pos, pow_mono}
 use Rattle.std.proofs.Math.Seq.{drop-nil}
 use Rattle.std.specs.List.{AllByRecursion}
 use Rattle.std.proofs.lemmas.Bool.{lt-leb}
 use Rattle.common.specs.Score.{Score}
 use Rattle.charts.specs.Model.{Lawful, Quiet, run}
-use Rattle.charts.specs.Words.{bit}
-use Rattle.charts.proofs.Running.{run_push, run_tracks}
-use Rattle.charts.proofs.WordLaws.{bit_below, bit_none, restarted}
+use Rattle.std.proofs.lemmas.List.Sums.{fold_push}
+use Rattle.charts.proofs.Running.{run_tracks}
+use Rattle.charts.proofs.LeafLaws.{leaf_lawful}
+use Rattle.charts.proofs.WordLaws.{bit_none}
 use Rattle.runs.specs.Runs.{mark, count_in, last_scores, marked, reached, runs}
 use Rattle.runs.specs.Marks.{twice_low, marks, marks_push, marks_low}
 
@@ -24,7 +25,7 @@ module _ (t m : ℕ) (y : ℤ) (some : 1 ≤ m) where
   carried xs x k q quiet still =
       ap (λ b. cond b 0 (marked y (state xs) x % 2 ^ (m - 1))) (word_is xs x ∙ bit_none (nat_le t (count_in y (last_scores m (xs ++ x ∷ [])))) still)
       ∙ twice_low (marks y xs) (mark y x) (2 ^ (m - 1))
-      ∙ sym (ap (λ n. n % 2 ^ (m - 1)) (run_push (marked y) 0 xs x))
+      ∙ sym (ap (λ n. n % 2 ^ (m - 1)) (fold_push (marked y) 0 xs x))
 
   tracks : (xs : List ℤ) → AllByRecursion Score xs → Quiet (runs t m y).look xs → run (runs t m y).next 0 xs ≡ state xs
   tracks = run_tracks (runs t m y) state none carried
@@ -33,20 +34,10 @@ module _ (t m : ℕ) (y : ℤ) (some : 1 ≤ m) where
       none = let some = pow_pos (m - 1) in omega arith
 
 pub runs_lawful : (t m : ℕ) (y : ℤ) → 2 ≤ t → t ≤ m → m ≤ 8 → Lawful (runs t m y)
-runs_lawful t m y several within few = record {
-  look_none = ap bit (ap (λ xs. leb t (count_in y xs)) (drop-nil (0 - m)) ∙ lt-leb t 0 (omega arith));
-  sized = λ n e. let same : n ≡ 2 ^ (m - 1) = cc in record {
-    few = let most : 2 ^ (m - 1) ≤ 2 ^ 7 = pow_mono {i = m - 1} {j = 7} (omega arith) in omega arith;
-    narrow = omega arith;
-    start_below = subst (λ d. 0 < d) (sym same) (pow_pos (m - 1));
-    next_below = λ s x b q. subst (λ d. (runs t m y).next s x < d) (sym same) (settled_below (reached t m (marked y s x)) (marked y s x));
-    word_below = λ s x b q. bit_below (reached t m (marked y s x));
-    look_below = λ xs q. bit_below (nat_le t (count_in y (last_scores m xs)));
-    restarts = λ s x b q w. restarted (reached t m (marked y s x)) 0 (marked y s x % 2 ^ (m - 1)) w;
-    agrees = λ before last q r quiet. ap (λ s. bit (reached t m (marked y s last))) (tracks t m y (omega arith) before q quiet) ∙ ap bit (word_is t m y (omega arith) before last);
-  };
-}
-  where
-    settled_below : (b : Bool) (n : ℕ) → cond b 0 (n % 2 ^ (m - 1)) < 2 ^ (m - 1)
-    settled_below true n = pow_pos (m - 1)
-    settled_below false n = mod-lt n (pow_pos (m - 1))
+runs_lawful t m y several within few = leaf_lawful _ _ _ _ _ (record {
+  few = let most : 2 ^ (m - 1) ≤ 2 ^ 7 = pow_mono {i = m - 1} {j = 7} (omega arith) in omega arith;
+  start_below = pow_pos (m - 1);
+  next_below = λ s x b q quiet. mod-lt (marked y s x) (pow_pos (m - 1));
+  look_none = ap (λ xs. leb t (count_in y xs)) (drop-nil (0 - m)) ∙ lt-leb t 0 (omega arith);
+  agrees = λ before last q r quiet. ap (λ s. reached t m (marked y s last)) (tracks t m y (omega arith) before q quiet) ∙ word_is t m y (omega arith) before last;
+})

@@ -5,9 +5,10 @@
 ghost use Rattle.std.specs.Prelude.{◌≡◌, ◌-◌, ◌%◌, ◌^◌, ◌<◌, ◌≤◌, true, if◌then◌else◌};
 ghost use Rattle.common.specs.Made.{Made};
 ghost use Rattle.common.specs.Score.{is_score};
+ghost use Rattle.charts.specs.Answers.{leaf_size};
 ghost use Rattle.charts.specs.Scores.{listed};
 ghost use Rattle.charts.specs.Words.{bit};
-ghost use Rattle.runs.specs.Runs.{mark, count_in, last_scores, marked, reached, runs};
+ghost use Rattle.runs.specs.Runs.{count_in, last_scores, marked, reached, runs};
 ghost use Rattle.runs.specs.Settings.{runs_fault};
 ghost use Rattle.runs.specs.RunsLaws.{runs_lawful};
 
@@ -17,7 +18,7 @@ use common::is_score;
 // No mark is set.
 const START: u32 = 0;
 
-#[derive(Clone, Copy)]
+#[derive(Clone, Copy, Debug, PartialEq, Eq)]
 pub struct Runs {
     t: u8,
     m: u8,
@@ -25,6 +26,7 @@ pub struct Runs {
     ghost several: { 2 ≤ t },
     ghost within: { t ≤ m },
     ghost few: { m ≤ 8 },
+    // said here and in two other rules: a type for it would hold a proof, and no definition could write its values out
     ghost level: { is_score y ≡ true },
 }
 
@@ -32,7 +34,7 @@ impl Runs {
     pub fn new(t: u8, m: u8, y: i16) -> Result<Runs, SettingFault>
         ensures { Made (runs_fault t m y) (λ s. (s.t ≡ t) × (s.m ≡ m) × (s.y ≡ y)) result }
     {
-        if 2 <= t && t <= m && m <= 8 && is_score(y as i32) {
+        if 2 <= t && t <= m && m <= 8 && is_score(y.into()) {
             Ok(Runs { t, m, y })
         } else {
             Err(SettingFault::OutOfRange)
@@ -40,69 +42,46 @@ impl Runs {
     }
 
     // A state for each way to mark m - 1 scores.
-    fn states(&self) -> u32
-        ensures { result ≡ 2 ^ (self.now.m - 1) }
+    fn extent(&self) -> Size
+        ensures { result ≡ leaf_size (2 ^ (self.now.m - 1)) }
     {
-        1 << (self.m - 1)
+        Size::of_leaf(1 << (self.m - 1))
     }
 
-    // 1 where a score counts, else 0.
-    fn mark(&self, score: i32) -> u32
-        ensures { result ≡ mark self.now.y score }
-    {
-        (score > self.y as i32) as u32
-    }
-
-    // The marks of the last m scores: those of the state, moved up, and the score's own in the lowest bit.
-    fn push(&self, state: u32, score: i32) -> u32
-        requires { state < 2 ^ (self.now.m - 1) }
-        ensures marks { result ≡ marked self.now.y state score }
-        ensures few { result < 2 ^ self.now.m }
-    {
-        2 * state + self.mark(score)
-    }
-
+    // Whether at least t of the last m scores count, by their marks.
+    #[tactic(auto, using(crate::specs::Marks::ones_all))]
     fn alarms(&self, marks: u32) -> bool
         requires { marks < 2 ^ self.now.m }
         ensures { result ≡ reached self.now.t self.now.m marks }
     {
-        marks.count_ones() >= self.t as u32
+        marks.count_ones() >= self.t.into()
     }
 
-    // The marks of the last m - 1 scores.
-    fn latest(&self, marks: u32) -> u32
-        ensures { result ≡ marks % 2 ^ (self.now.m - 1) }
+    // The next state and the word, by the marks of the last m scores: those of the state, moved up, and the score's own in
+    // the lowest bit.
+    #[tactic(auto, using(crate::specs::Marks::marked_below))]
+    fn settle(&self, state: u32, score: i16) -> (u32, u16)
+        requires { state < 2 ^ (self.now.m - 1) }
+        ensures next { result.0 ≡ (if reached self.now.t self.now.m (marked self.now.y state score) then 0 else marked self.now.y state score % 2 ^ (self.now.m - 1)) }
+        ensures word { result.1 ≡ bit (reached self.now.t self.now.m (marked self.now.y state score)) }
     {
-        marks & (self.states() - 1)
-    }
-
-    // The next state and the word, by the marks.
-    fn settle(&self, marks: u32) -> (u32, u16)
-        requires { marks < 2 ^ self.now.m }
-        ensures next { result.0 ≡ (if reached self.now.t self.now.m marks then 0 else marks % 2 ^ (self.now.m - 1)) }
-        ensures word { result.1 ≡ bit (reached self.now.t self.now.m marks) }
-    {
+        let marks = 2 * state + u32::from(score > self.y);
         if self.alarms(marks) {
             (START, 1)
         } else {
-            (self.latest(marks), 0)
+            (marks % self.extent().states, 0)
         }
     }
 
-    // How many of the last m scores count, the latest first.
-    fn recent(&self, scores: Scores<'_>) -> u32
+    // How many of the last m scores count.
+    fn recent(&self, scores: Scores<'_>) -> usize
         ensures { result ≡ count_in self.now.y (last_scores self.now.m (listed scores.entry)) }
     {
-        let mut earlier = scores;
-        let mut count = 0;
-        for _ in 0..self.m {
-            let Some((score, before)) = earlier.split_last() else {
-                return count;
-            };
-            count += self.mark(score as i32);
-            earlier = before;
-        }
-        count
+        scores
+            .latest_first()
+            .take(self.m.into())
+            .filter(|score| *score > self.y)
+            .count()
     }
 }
 
@@ -122,10 +101,7 @@ impl Chart for Runs {
     ghost lawful = { λ r. runs_lawful r.t r.m r.y r.several r.within r.few };
 
     fn size(&self) -> Option<Size> {
-        Some(Size {
-            states: self.states(),
-            leaves: 1,
-        })
+        Some(self.extent())
     }
 
     fn start(&self) -> Result<u32, ChartFault> {
@@ -133,15 +109,12 @@ impl Chart for Runs {
     }
 
     fn step(&self, state: u32, score: i16) -> Result<(u32, u16), ChartFault> {
-        if state < self.states() && is_score(score as i32) {
-            Ok(self.settle(self.push(state, score as i32)))
-        } else {
-            Err(ChartFault::OutOfRange)
-        }
+        self.extent().check(state, score)?;
+        Ok(self.settle(state, score))
     }
 
     fn look(&self, scores: Scores<'_>) -> Result<u16, ChartFault> {
         scores.check()?;
-        Ok((self.recent(scores) >= self.t as u32) as u16)
+        Ok((self.recent(scores) >= self.t.into()).into())
     }
 }

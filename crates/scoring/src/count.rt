@@ -6,7 +6,7 @@ use crate::fault::SourceFault;
 use crate::source::Source;
 use common::is_score;
 
-#[derive(Clone, Copy)]
+#[derive(Clone, Copy, Debug, PartialEq, Eq)]
 pub struct Count {
     pub centre: u16,
 }
@@ -19,8 +19,9 @@ impl Source for Count {
     ghost within = { Prim.search rules };
 
     fn score(&self, reading: u16) -> Result<i16, SourceFault> {
-        let difference = reading as i32 - self.centre as i32;
+        let difference = i32::from(reading) - i32::from(self.centre);
         if is_score(difference) {
+            // a cast that loses nothing, which is proved; `try_from` would add a refusal that never comes
             Ok(difference as i16)
         } else {
             Err(SourceFault::OffCount(difference))

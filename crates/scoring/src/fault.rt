@@ -21,19 +21,20 @@ impl Fault for SourceFault {
     ghost refusal = { source_refusal };
 
     fn refusal(&self) -> Refusal {
-        let (number, carried) = match self {
-            SourceFault::NotANumber => (10, Carried::Nothing),
-            SourceFault::Below(reading) => (11, Carried::Value(*reading)),
-            SourceFault::Above(reading) => (12, Carried::Value(*reading)),
-            SourceFault::OffScale(quotient) => (13, Carried::Value(*quotient)),
-            SourceFault::OffCount(difference) => (14, Carried::Difference(*difference)),
-        };
-        Refusal { number, carried }
+        match *self {
+            SourceFault::NotANumber => Refusal::bare(10),
+            SourceFault::Below(reading) => Refusal::carrying(11, Carried::Value(reading)),
+            SourceFault::Above(reading) => Refusal::carrying(12, Carried::Value(reading)),
+            SourceFault::OffScale(quotient) => Refusal::carrying(13, Carried::Value(quotient)),
+            SourceFault::OffCount(difference) => {
+                Refusal::carrying(14, Carried::Difference(difference))
+            }
+        }
     }
 }
 
 // Why a source cannot be made.
-#[derive(Clone, Copy, Debug, PartialEq)]
+#[derive(Clone, Copy, Debug, PartialEq, Eq)]
 pub enum SourceSettingFault {
     // a setting that is not finite, or out of its range
     OutOfRange,
@@ -47,14 +48,10 @@ impl Fault for SourceSettingFault {
     ghost refusal = { source_setting_refusal };
 
     fn refusal(&self) -> Refusal {
-        let number = match self {
+        Refusal::bare(match self {
             SourceSettingFault::OutOfRange => 1,
             SourceSettingFault::NotRising => 2,
             SourceSettingFault::ScoresOutOfOrder => 3,
-        };
-        Refusal {
-            number,
-            carried: Carried::Nothing,
-        }
+        })
     }
 }

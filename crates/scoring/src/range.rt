@@ -9,6 +9,7 @@ const MILLION: f64 = 1_000_000.0;
 pub fn is_in_range(x: f64) -> bool
     ensures { result ≡ in_range x }
 {
+    // two comparisons: with `contains` of a range of floats the proof did not close
     -MILLION <= x && x <= MILLION
 }
 

@@ -3,9 +3,9 @@
 --   latest_above   whether the latest score of a list is above c
 --   shewhart       the chart with limit c, which has one state
 use Rattle.std.specs.Prelude.{Bool, false, List, ℤ, Some, None, Option, int_lt}
+use Rattle.charts.specs.Leaf.{leaf}
 use Rattle.charts.specs.Model.{Model}
 use Rattle.charts.specs.Scores.{latest}
-use Rattle.charts.specs.Words.{bit}
 
 abbrev pub above : ℤ → Option ℤ → Bool
 above c None = false
@@ -15,11 +15,4 @@ abbrev pub latest_above : ℤ → List ℤ → Bool
 latest_above c xs = above c (latest xs)
 
 abbrev pub shewhart : ℤ → Model
-shewhart c = record {
-  size = Some 1;
-  start = 0;
-  leaves = 1;
-  next = λ s x. 0;
-  word = λ s x. bit (int_lt c x);
-  look = λ xs. bit (latest_above c xs);
-}
+shewhart c = leaf 1 0 (λ s x. int_lt c x) (λ s x. 0) (latest_above c)

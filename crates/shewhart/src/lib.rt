@@ -16,9 +16,10 @@ const STATES: u32 = 1;
 
 const START: u32 = 0;
 
-#[derive(Clone, Copy)]
+#[derive(Clone, Copy, Debug, PartialEq, Eq)]
 pub struct Shewhart {
     c: i16,
+    // said here and in two other rules: a type for it would hold a proof, and no definition could write its values out
     ghost limit: { is_score c ≡ true },
 }
 
@@ -26,7 +27,7 @@ impl Shewhart {
     pub fn new(c: i16) -> Result<Shewhart, SettingFault>
         ensures { Made (shewhart_fault c) (λ s. s.c ≡ c) result }
     {
-        if is_score(c as i32) {
+        if is_score(c.into()) {
             Ok(Shewhart { c })
         } else {
             Err(SettingFault::OutOfRange)
@@ -50,10 +51,7 @@ impl Chart for Shewhart {
     ghost lawful = { λ s. shewhart_lawful s.c };
 
     fn size(&self) -> Option<Size> {
-        Some(Size {
-            states: STATES,
-            leaves: 1,
-        })
+        Some(Size::of_leaf(STATES))
     }
 
     fn start(&self) -> Result<u32, ChartFault> {
@@ -61,18 +59,12 @@ impl Chart for Shewhart {
     }
 
     fn step(&self, state: u32, score: i16) -> Result<(u32, u16), ChartFault> {
-        if state < STATES && is_score(score as i32) {
-            Ok((START, (score > self.c) as u16))
-        } else {
-            Err(ChartFault::OutOfRange)
-        }
+        Size::of_leaf(STATES).check(state, score)?;
+        Ok((START, (score > self.c).into()))
     }
 
     fn look(&self, scores: Scores<'_>) -> Result<u16, ChartFault> {
         scores.check()?;
-        match scores.latest() {
-            Some(latest) => Ok((latest > self.c) as u16),
-            None => Ok(0),
-        }
+        Ok(scores.latest().is_some_and(|latest| latest > self.c).into())
     }
 }

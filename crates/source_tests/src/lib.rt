@@ -9,15 +9,14 @@ mod tests {
     use std::process::Abort;
     use std::test::Fail;
 
-    // A reading, and what becomes of it.
-    struct Scored {
-        reading: f64,
-        answer: Result<i16, SourceFault>,
-    }
-
-    fn check_scores<S: Source<Reading = f64>>(rt: &impl Abort, source: &S, cases: &[Scored]) {
-        for case in cases {
-            assert_eq!(rt; source.score(case.reading), case.answer);
+    // Readings, each with what becomes of it.
+    fn check_scores<S: Source<Reading = f64>>(
+        rt: &impl Abort,
+        source: &S,
+        cases: &[(f64, Result<i16, SourceFault>)],
+    ) {
+        for (reading, answer) in cases {
+            assert_eq!(rt; source.score(*reading), *answer);
         }
     }
 
@@ -28,78 +27,33 @@ mod tests {
             &rt,
             &source,
             &[
-                Scored {
-                    reading: -3.0000000000000004,
-                    answer: Ok(-2),
-                },
-                Scored {
-                    reading: -3.0,
-                    answer: Ok(-2),
-                },
-                Scored {
-                    reading: -2.9999999999999996,
-                    answer: Ok(-1),
-                },
-                Scored {
-                    reading: -1.0,
-                    answer: Ok(-1),
-                },
-                Scored {
-                    reading: -0.9999999999999999,
-                    answer: Ok(0),
-                },
-                Scored {
-                    reading: -0.0,
-                    answer: Ok(0),
-                },
-                Scored {
-                    reading: 5e-324,
-                    answer: Ok(0),
-                },
-                Scored {
-                    reading: 0.9999999999999999,
-                    answer: Ok(0),
-                },
-                Scored {
-                    reading: 1.0,
-                    answer: Ok(1),
-                },
-                Scored {
-                    reading: 2.9999999999999996,
-                    answer: Ok(1),
-                },
-                Scored {
-                    reading: 3.0,
-                    answer: Ok(2),
-                },
-                Scored {
-                    reading: -1000000.0,
-                    answer: Ok(-2),
-                },
-                Scored {
-                    reading: 1000000.0,
-                    answer: Ok(2),
-                },
-                Scored {
-                    reading: -1000000.0000000001,
-                    answer: Err(SourceFault::Below(-1000000.0000000001)),
-                },
-                Scored {
-                    reading: 1000000.0000000001,
-                    answer: Err(SourceFault::Above(1000000.0000000001)),
-                },
-                Scored {
-                    reading: f64::NEG_INFINITY,
-                    answer: Err(SourceFault::Below(f64::NEG_INFINITY)),
-                },
-                Scored {
-                    reading: f64::INFINITY,
-                    answer: Err(SourceFault::Above(f64::INFINITY)),
-                },
-                Scored {
-                    reading: f64::NAN,
-                    answer: Err(SourceFault::NotANumber),
-                },
+                (-3.0000000000000004, Ok(-2)),
+                (-3.0, Ok(-2)),
+                (-2.9999999999999996, Ok(-1)),
+                (-1.0, Ok(-1)),
+                (-0.9999999999999999, Ok(0)),
+                (-0.0, Ok(0)),
+                (5e-324, Ok(0)),
+                (0.9999999999999999, Ok(0)),
+                (1.0, Ok(1)),
+                (2.9999999999999996, Ok(1)),
+                (3.0, Ok(2)),
+                (-1000000.0, Ok(-2)),
+                (1000000.0, Ok(2)),
+                (
+                    -1000000.0000000001,
+                    Err(SourceFault::Below(-1000000.0000000001)),
+                ),
+                (
+                    1000000.0000000001,
+                    Err(SourceFault::Above(1000000.0000000001)),
+                ),
+                (
+                    f64::NEG_INFINITY,
+                    Err(SourceFault::Below(f64::NEG_INFINITY)),
+                ),
+                (f64::INFINITY, Err(SourceFault::Above(f64::INFINITY))),
+                (f64::NAN, Err(SourceFault::NotANumber)),
             ],
         );
         Ok(())
@@ -113,58 +67,19 @@ mod tests {
             &source,
             &[
                 // a half goes away from zero
-                Scored {
-                    reading: 2.125,
-                    answer: Ok(3),
-                },
-                Scored {
-                    reading: 0.875,
-                    answer: Ok(-3),
-                },
-                Scored {
-                    reading: 2.1249999999999996,
-                    answer: Ok(2),
-                },
-                Scored {
-                    reading: 0.8750000000000001,
-                    answer: Ok(-2),
-                },
-                Scored {
-                    reading: 1.5,
-                    answer: Ok(0),
-                },
-                Scored {
-                    reading: -0.0,
-                    answer: Ok(-6),
-                },
-                Scored {
-                    reading: 5e-324,
-                    answer: Ok(-6),
-                },
-                Scored {
-                    reading: 251.6,
-                    answer: Ok(1000),
-                },
-                Scored {
-                    reading: 251.625,
-                    answer: Err(SourceFault::OffScale(1000.5)),
-                },
-                Scored {
-                    reading: -248.625,
-                    answer: Err(SourceFault::OffScale(-1000.5)),
-                },
-                Scored {
-                    reading: -1000001.0,
-                    answer: Err(SourceFault::Below(-1000001.0)),
-                },
-                Scored {
-                    reading: f64::INFINITY,
-                    answer: Err(SourceFault::Above(f64::INFINITY)),
-                },
-                Scored {
-                    reading: f64::NAN,
-                    answer: Err(SourceFault::NotANumber),
-                },
+                (2.125, Ok(3)),
+                (0.875, Ok(-3)),
+                (2.1249999999999996, Ok(2)),
+                (0.8750000000000001, Ok(-2)),
+                (1.5, Ok(0)),
+                (-0.0, Ok(-6)),
+                (5e-324, Ok(-6)),
+                (251.6, Ok(1000)),
+                (251.625, Err(SourceFault::OffScale(1000.5))),
+                (-248.625, Err(SourceFault::OffScale(-1000.5))),
+                (-1000001.0, Err(SourceFault::Below(-1000001.0))),
+                (f64::INFINITY, Err(SourceFault::Above(f64::INFINITY))),
+                (f64::NAN, Err(SourceFault::NotANumber)),
             ],
         );
         Ok(())

@@ -5,7 +5,7 @@ use gauges::Gauges;
 use measure::Measure;
 use scoring::Count;
 
-#[derive(Clone, Copy)]
+#[derive(Clone, Copy, Debug, PartialEq)]
 pub enum AnySource {
     Gauges(Gauges),
     Measure(Measure),

@@ -1,47 +1,33 @@
--- The total, taken from the end of a list.
-use Rattle.std.proofs.Common.{◌≡◌, ◌*◌, ◌≤◌, true, List, [], ◌∷◌, ◌++◌, length, ℤ, pos, negsuc, ◌+ℤ◌, ◌≤ℤ◌, ap, ◌∙◌, arith}
+-- The total, taken from the latest score.
+use Rattle.std.proofs.lemmas.List.{reverse-append}
+use Rattle.std.proofs.Common.{reverse, ◌≡◌, List, [], ◌∷◌, ℤ, pos, negsuc, ◌+ℤ◌, ◌≤ℤ◌, Ok, refl, ap, ◌∙◌, arith}
 use Rattle.std.proofs.lemmas.Int.{ints}
-use Rattle.std.proofs.lemmas.Bool.{and_parts}
-use Rattle.common.specs.Score.{is_score}
-use Rattle.common.proofs.ScoreLaws.{score_within}
-use Rattle.charts.specs.Scores.{are_scores}
-use Rattle.charts.proofs.Backward.{parts_length, parts_scores, parts_all, parts_more, parts_score}
+use Rattle.charts.specs.Scores.{checked}
+use Rattle.charts.proofs.Backward.{Summing, summing_none, summing_bounds, summing_score, summing_more}
 use Rattle.walk.specs.Walk.{total}
+use Rattle.walk.specs.WalkLaws.{total_push}
 
--- the list xs, of which the part `seen` at the end is in the sum
-pub record Seen (xs earlier : List ℤ) (sum : ℤ) : Type 0 where
-  pub seen : List ℤ
-  pub parts : earlier ++ seen ≡ xs
-  pub sum_is : sum ≡ total seen
+total_backward : (xs : List ℤ) → total (reverse xs) ≡ total xs
+total_backward [] = refl
+total_backward (x ∷ xs) =
+    let rest = total_backward xs in
+    ap total (reverse-append (x ∷ []) xs) ∙ total_push (reverse xs) x ∙ omega (arith, ints)
 
--- x is the latest of the earlier scores, and t the sum with it
-pub seen_more : (xs earlier before : List ℤ) (x sum t : ℤ) → Seen xs earlier sum → earlier ≡ before ++ x ∷ [] → t ≡ sum +ℤ x → Seen xs before t
-seen_more xs earlier before x sum t s last is = record {
-  seen = x ∷ s.seen;
-  parts = parts_more xs earlier s.seen s.parts before x last;
-  sum_is = let e = s.sum_is in omega (arith, ints);
-}
+-- the list xs, with the sum of the scores read so far, and those left
+pub record Reading (xs : List ℤ) (sum : ℤ) (left : List ℤ) : Type 0 where
+  pub all : sum +ℤ total left ≡ total xs
+  pub summing : Summing 1000 sum left
 
-pub seen_all : (xs earlier : List ℤ) (sum : ℤ) → Seen xs earlier sum → earlier ≡ [] → sum ≡ total xs
-seen_all xs earlier sum s none = s.sum_is ∙ ap total (parts_all xs earlier s.seen s.parts none)
+pub reading_none : (xs : List ℤ) → checked xs ≡ Ok tt → Reading xs (pos 0) (reverse xs)
+reading_none xs ok = record { all = let same = total_backward xs in omega (arith, ints); summing = summing_none 1000 xs ok }
 
-total_within : (xs : List ℤ) → are_scores xs ≡ true → (total xs ≤ℤ pos (1000 * length xs)) × (pos 0 ≤ℤ (total xs +ℤ pos (1000 * length xs)))
-total_within [] q = (omega (arith, ints), omega (arith, ints))
-total_within (x ∷ xs) q =
-    let both = and_parts (is_score x) (are_scores xs) q in
-    let rest = total_within xs both.1 in
-    let one = score_within x both.0 in
-    (omega (arith, ints), omega (arith, ints))
+-- x is the next of those left
+module _ (xs : List ℤ) (sum x : ℤ) (left rest : List ℤ) (reading : Reading xs sum left) (next : left ≡ x ∷ rest) where
+  pub reading_more : Reading xs (sum +ℤ x) rest
+  reading_more = record {
+    all = let all = reading.all in let parts = ap total next in omega (arith, ints);
+    summing = let score = summing_score 1000 sum x left rest reading.summing next in summing_more 1000 sum x left rest reading.summing next x (omega (arith, ints)) (omega (arith, ints));
+  }
 
-module _ (xs earlier : List ℤ) (sum : ℤ) (scores : are_scores xs ≡ true) (s : Seen xs earlier sum) where
-  -- the latest of the earlier scores
-  pub seen_score : (before : List ℤ) (x : ℤ) → earlier ≡ before ++ x ∷ [] → is_score x ≡ true
-  seen_score before x e = parts_score xs earlier s.seen s.parts before x e scores
-
-  -- the sum stays far within 32 bits
-  pub seen_within : length xs ≤ 4096 → (negsuc 4095999 ≤ℤ sum) × (sum ≤ℤ pos 4096000)
-  seen_within few =
-      let bounds = total_within s.seen (parts_scores xs earlier s.seen s.parts scores).1 in
-      let whole = parts_length xs earlier s.seen s.parts in
-      let is = s.sum_is in
-      (omega (arith, ints), omega (arith, ints))
+  pub reading_fits : (negsuc 4095999 ≤ℤ (sum +ℤ x)) × ((sum +ℤ x) ≤ℤ pos 4096000)
+  reading_fits = summing_bounds 1000 (sum +ℤ x) rest reading_more.summing

@@ -5,9 +5,9 @@
 --   state_of   the state that stands for a total between the limits: total + h - 1
 --   moved      the total that a score makes of the state
 --   walk       the chart with limits h and -h
-use Rattle.std.specs.Prelude.{ℕ, ◌-◌, ◌*◌, Bool, cond, ◌||◌, List, [], ◌∷◌, ℤ, pos, ◌+ℤ◌, ◌-ℤ◌, neg_ℤ, Some, int_le, unsigned_abs}
+use Rattle.std.specs.Prelude.{ℕ, ◌-◌, ◌*◌, Bool, ◌||◌, List, [], ◌∷◌, ℤ, pos, ◌+ℤ◌, ◌-ℤ◌, neg_ℤ, int_le, unsigned_abs}
+use Rattle.charts.specs.Leaf.{leaf}
 use Rattle.charts.specs.Model.{Model}
-use Rattle.charts.specs.Words.{bit}
 
 abbrev pub total : List ℤ → ℤ
 total [] = pos 0
@@ -26,11 +26,4 @@ abbrev pub moved : ℕ → ℕ → ℤ → ℤ
 moved h s x = total_at h s +ℤ x
 
 abbrev pub walk : ℕ → Model
-walk h = record {
-  size = Some (2 * h - 1);
-  start = h - 1;
-  leaves = 1;
-  next = λ s x. cond (outside h (moved h s x)) (h - 1) (state_of h (moved h s x));
-  word = λ s x. bit (outside h (moved h s x));
-  look = λ xs. bit (outside h (total xs));
-}
+walk h = leaf (2 * h - 1) (h - 1) (λ s x. outside h (moved h s x)) (λ s x. state_of h (moved h s x)) (λ xs. outside h (total xs))

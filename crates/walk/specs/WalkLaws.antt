@@ -1,18 +1,18 @@
 -- The laws of the random walk: after a quiet list the state stands for the total of the list.
-use Rattle.std.specs.Prelude.{◌≡◌, ℕ, ◌-◌, ◌*◌, ◌<◌, ◌≤◌, Bool, true, false, cond, List, [], ◌∷◌, ◌++◌, ℤ, pos, ◌+ℤ◌, neg_ℤ, int_le, refl}
-use Rattle.std.proofs.Common.{sym, ap, ◌∙◌, subst, arith}
+use Rattle.std.specs.Prelude.{◌≡◌, ℕ, ◌-◌, ◌*◌, ◌<◌, ◌≤◌, false, cond, List, [], ◌∷◌, ◌++◌, ℤ, pos, ◌+ℤ◌, neg_ℤ, int_le}
+use Rattle.std.proofs.Common.{sym, ap, ◌∙◌, arith}
 use Rattle.std.specs.List.{AllByRecursion}
 use Rattle.std.proofs.lemmas.List.{append-nil}
 use Rattle.std.proofs.lemmas.Int.{ints}
 use Rattle.std.proofs.lemmas.Bool.{or_parts, or_from}
 use Rattle.common.specs.Score.{Score}
 use Rattle.charts.specs.Model.{Lawful, Quiet, run}
-use Rattle.charts.specs.Words.{bit}
 use Rattle.charts.proofs.Running.{run_tracks}
-use Rattle.charts.proofs.WordLaws.{bit_below, bit_none, restarted}
+use Rattle.charts.proofs.LeafLaws.{leaf_lawful}
+use Rattle.charts.proofs.WordLaws.{bit_none}
 use Rattle.walk.specs.Walk.{total, outside, total_at, state_of, moved, walk}
 
-total_push : (xs : List ℤ) (x : ℤ) → total (xs ++ x ∷ []) ≡ total xs +ℤ x
+pub total_push : (xs : List ℤ) (x : ℤ) → total (xs ++ x ∷ []) ≡ total xs +ℤ x
 total_push [] x = omega (arith, ints)
 total_push (y ∷ ys) x = let rest = total_push ys x in omega (arith, ints)
 
@@ -47,20 +47,10 @@ module _ (h : ℕ) (some : 1 ≤ h) where
   tracks = run_tracks (walk h) (λ xs. state_of h (total xs)) state_none carried
 
 pub walk_lawful : (h : ℕ) → 1 ≤ h → h ≤ 2048 → Lawful (walk h)
-walk_lawful h some few = record {
-  look_none = ap bit (none_outside h some);
-  sized = λ n e. let same : n ≡ 2 * h - 1 = cc in record {
-    few = omega arith;
-    narrow = omega arith;
-    start_below = omega arith;
-    next_below = λ s x b q. subst (λ m. (walk h).next s x < m) (sym same) (settled_below (outside h (moved h s x)) (moved h s x) refl);
-    word_below = λ s x b q. bit_below (outside h (moved h s x));
-    look_below = λ xs q. bit_below (outside h (total xs));
-    restarts = λ s x b q w. restarted (outside h (moved h s x)) (h - 1) (state_of h (moved h s x)) w;
-    agrees = λ before last q r quiet. ap (λ s. bit (outside h (moved h s last))) (tracks h some before q quiet) ∙ ap (λ t. bit (outside h t)) (moved_on h some before last quiet);
-  };
-}
-  where
-    settled_below : (b : Bool) (t : ℤ) → outside h t ≡ b → cond b (h - 1) (state_of h t) < 2 * h - 1
-    settled_below true t e = omega arith
-    settled_below false t e = state_below h some t e
+walk_lawful h some few = leaf_lawful _ _ _ _ _ (record {
+  few = omega arith;
+  start_below = omega arith;
+  next_below = λ s x b q quiet. state_below h some (moved h s x) quiet;
+  look_none = none_outside h some;
+  agrees = λ before last q r quiet. ap (λ s. outside h (moved h s last)) (tracks h some before q quiet) ∙ ap (outside h) (moved_on h some before last quiet);
+})

@@ -1,9 +1,9 @@
 // A random walk with two limits: the running total of the scores, which alarms at h or above and at -h or below.
 #![tactic(auto)]
 
-ghost use Rattle.std.specs.Prelude.{◌≡◌, ◌-◌, ◌*◌, ◌<◌, ◌≤◌, true, if◌then◌else◌, Ok};
+ghost use Rattle.std.specs.Prelude.{◌≡◌, ◌-◌, ◌*◌, ◌<◌, ◌≤◌, if◌then◌else◌, Ok};
 ghost use Rattle.common.specs.Made.{Made};
-ghost use Rattle.common.specs.Score.{is_score};
+ghost use Rattle.charts.specs.Answers.{leaf_size};
 ghost use Rattle.charts.specs.Scores.{listed, checked};
 ghost use Rattle.charts.specs.Words.{bit};
 ghost use Rattle.walk.specs.Settings.{walk_fault};
@@ -11,9 +11,8 @@ ghost use Rattle.walk.specs.Walk.{total, outside, state_of, moved, walk};
 ghost use Rattle.walk.specs.WalkLaws.{walk_lawful};
 
 use charts::{Chart, ChartFault, Scores, SettingFault, Size};
-use common::is_score;
 
-#[derive(Clone, Copy)]
+#[derive(Clone, Copy, Debug, PartialEq, Eq)]
 pub struct Walk {
     h: u16,
     ghost some: { 1 ≤ h },
@@ -24,7 +23,7 @@ impl Walk {
     pub fn new(h: u16) -> Result<Walk, SettingFault>
         ensures { Made (walk_fault h) (λ w. w.h ≡ h) result }
     {
-        if 1 <= h && h <= 2048 {
+        if (1..=2048).contains(&h) {
             Ok(Walk { h })
         } else {
             Err(SettingFault::OutOfRange)
@@ -32,32 +31,32 @@ impl Walk {
     }
 
     // A state for each total between the limits.
-    fn states(&self) -> u32
-        ensures { result ≡ 2 * self.now.h - 1 }
+    fn extent(&self) -> Size
+        ensures { result ≡ leaf_size (2 * self.now.h - 1) }
     {
-        2 * self.h as u32 - 1
+        Size::of_leaf(2 * u32::from(self.h) - 1)
     }
 
     // The state of total 0.
     fn middle(&self) -> u32
         ensures { result ≡ self.now.h - 1 }
     {
-        self.h as u32 - 1
+        u32::from(self.h) - 1
     }
 
     // The total that a score makes of a state.
-    fn shift(&self, state: u32, score: i32) -> i32
-        requires state { state < 2 * self.now.h - 1 }
-        requires score { is_score score ≡ true }
+    fn shift(&self, state: u32, score: i16) -> i32
+        requires { state < 2 * self.now.h - 1 }
         ensures { result ≡ moved self.now.h state score }
     {
-        state as i32 - self.middle() as i32 + score
+        // a cast that loses nothing, which is proved; `try_from` would add a refusal that never comes
+        state as i32 - (i32::from(self.h) - 1) + i32::from(score)
     }
 
     fn alarms(&self, total: i32) -> bool
         ensures { result ≡ outside self.now.h total }
     {
-        total >= self.h as i32 || total <= -(self.h as i32)
+        total.unsigned_abs() >= self.h.into()
     }
 
     // The next state and the word, by the total.
@@ -68,21 +67,19 @@ impl Walk {
         if self.alarms(total) {
             (self.middle(), 1)
         } else {
-            ((total + self.middle() as i32) as u32, 0)
+            (self.middle().saturating_add_signed(total), 0)
         }
     }
 }
 
-// The sum of a list, the latest score first. 4,096 scores change a sum by at most 1,000 each.
+// The sum of a list. 4,096 scores change a sum by at most 1,000 each.
 fn total(scores: Scores<'_>) -> i32
     requires { checked (listed scores) ≡ Ok tt }
     ensures { result ≡ total (listed scores.entry) }
 {
-    let mut earlier = scores;
     let mut sum = 0;
-    while let Some((score, before)) = earlier.split_last() {
-        sum += score as i32;
-        earlier = before;
+    for score in scores.latest_first() {
+        sum += i32::from(score);
     }
     sum
 }
@@ -103,10 +100,7 @@ impl Chart for Walk {
     ghost lawful = { λ w. walk_lawful w.h w.some w.few };
 
     fn size(&self) -> Option<Size> {
-        Some(Size {
-            states: self.states(),
-            leaves: 1,
-        })
+        Some(self.extent())
     }
 
     fn start(&self) -> Result<u32, ChartFault> {
@@ -114,15 +108,12 @@ impl Chart for Walk {
     }
 
     fn step(&self, state: u32, score: i16) -> Result<(u32, u16), ChartFault> {
-        if state < self.states() && is_score(score as i32) {
-            Ok(self.settle(self.shift(state, score as i32)))
-        } else {
-            Err(ChartFault::OutOfRange)
-        }
+        self.extent().check(state, score)?;
+        Ok(self.settle(self.shift(state, score)))
     }
 
     fn look(&self, scores: Scores<'_>) -> Result<u16, ChartFault> {
         scores.check()?;
-        Ok(self.alarms(total(scores)) as u16)
+        Ok(self.alarms(total(scores)).into())
     }
 }

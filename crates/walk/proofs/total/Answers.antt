@@ -1,27 +1,17 @@
-use Rattle.std.proofs.Common.{length, ap, subst, arith}
-use Rattle.std.proofs.lemmas.List.{length_push}
+use Rattle.std.proofs.Common.{reverse, ◌≡◌, pos, ◌+ℤ◌, subst, arith, w32, to_z, of_z}
 use Rattle.std.proofs.lemmas.Int.{ints}
-use Rattle.common.proofs.ScoreLaws.{score_within}
-use Rattle.charts.specs.Scores.{listed}
-use Rattle.charts.proofs.Looking.{passed}
-use Rattle.walk.proofs.TotalLaws.{Seen, seen_more, seen_all, seen_score, seen_within}
+use Rattle.charts.specs.Scores.{listed, to_come}
+use Rattle.walk.proofs.TotalLaws.{Reading, reading_none, reading_fits, reading_more}
 use Rattle.walk.proofs.total.Goals as goal
 
-pub overflow_add-sum : goal.overflow_add-sum
-overflow_add-sum c =
-    let ok = passed (listed c.args.scores) c.requires in
-    let bounds = seen_within _ _ _ ok.scores c.loop-score.invariant ok.few in
-    let score = score_within c.in-Some.score (seen_score _ _ _ ok.scores c.loop-score.invariant _ _ c.in-Some.ensures) in
-    omega (arith, ints)
-
-pub loop-score-smaller : goal.loop-score-smaller
-loop-score-smaller c = let e = ap length c.in-Some.ensures in let more = length_push (listed c.in-Some.before) c.in-Some.score in omega arith
+pub loop-score-init : goal.loop-score-init
+loop-score-init c =
+    let all : reverse (listed c.args.scores) ≡ to_come c.into_iter-score-iterator.result = cc in
+    subst (Reading (listed c.args.scores) (pos 0)) all (reading_none _ c.requires)
 
 pub loop-score-preserved : goal.loop-score-preserved
 loop-score-preserved c =
-    let done = subst (Seen (listed c.args.scores) (listed c.loop-score.earlier)) c.loop-score.sum-is c.loop-score.invariant in
-    let fits = overflow_add-sum c in
-    seen_more _ _ _ _ _ _ done c.in-Some.ensures (omega (arith, ints))
-
-pub returns : goal.returns
-returns c = seen_all _ _ _ c.loop-score.invariant c.in_default.ensures
+    let more = reading_more _ _ _ _ _ c.loop-score.invariant c.in-Some.ensures.steps in
+    let bounds = reading_fits _ _ _ _ _ c.loop-score.invariant c.in-Some.ensures.steps in
+    let is : to_z w32 c.loop-score.sum-bits +ℤ c.in-Some.score ≡ to_z w32 (of_z w32 (to_z w32 c.loop-score.sum-bits +ℤ to_z w32 (of_z w32 c.from-sum.result))) = omega (arith, ints) in
+    subst (λ t. Reading (listed c.args.scores) t (to_come c.next.new.self)) is more
