@@ -1,8 +1,8 @@
--- Lists of scores from the end to the beginning.
+-- Lists of scores from the end to the beginning, and sums over them.
 use Rattle.std.proofs.Common.{reverse, ◌≡◌, ℕ, ◌+◌, ◌*◌, ◌≤◌, true, List, [], ◌∷◌, length, ℤ, pos, negsuc, ◌+ℤ◌, neg_ℤ, ◌≤ℤ◌, Ok, sym, refl, ap, ◌∙◌, arith, mul-suc, mul-le-mul_left}
 use Rattle.std.proofs.lemmas.Int.{ints}
 use Rattle.std.proofs.lemmas.Bool.{and_parts, and_from}
-use Rattle.std.proofs.lemmas.List.{length-reverse, reverse-append, reverse-reverse}
+use Rattle.std.proofs.lemmas.List.{length-reverse, reverse-append}
 use Rattle.std.proofs.lemmas.List.Folds.{list_all-append}
 use Rattle.common.specs.Score.{is_score}
 use Rattle.common.proofs.ScoreLaws.{score_within}
@@ -16,10 +16,6 @@ reverse_scores (x ∷ xs) q =
     ap are_scores (reverse-append (x ∷ []) xs)
     ∙ list_all-append is_score (reverse xs) (x ∷ [])
     ∙ and_from (are_scores (reverse xs)) (are_scores (x ∷ [])) (reverse_scores xs both.1) (and_from (is_score x) true both.0 refl)
-
--- what holds of a list read backward and of what is read already, whichever list it is
-pub read_backward : {A : Type 0} (f g : List ℤ → A) → ((ys : List ℤ) → f ys ≡ g (reverse ys)) → (xs : List ℤ) → f (reverse xs) ≡ g xs
-read_backward f g same xs = same (reverse xs) ∙ ap g (reverse-reverse xs)
 
 -- a sum over at most 4,096 scores, each of which adds at most `most` either way, where the scores `left` are still to come
 pub record Summing (most : ℕ) (sum : ℤ) (left : List ℤ) : Type 0 where

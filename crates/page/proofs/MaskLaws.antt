@@ -2,12 +2,12 @@
 use Rattle.std.proofs.Common.{reverse, ◌≡◌, ℕ, Bool, true, false, ◌||◌, List, [], ◌∷◌, ◌++◌, ℤ, pos, negsuc, ◌+ℤ◌, ◌-ℤ◌, ◌≤ℤ◌, int_le, Ok, sym, ap, ◌∙◌, subst, arith}
 use Rattle.std.specs.List.{list_any}
 use Rattle.std.proofs.Math.Bool.{or_comm, or-false}
-use Rattle.std.proofs.lemmas.List.{reverse-append, append_assoc, append-nil}
+use Rattle.std.proofs.lemmas.List.{reverse-append, reverse-reverse, append_assoc, append-nil}
 use Rattle.std.proofs.lemmas.Int.{ints}
 use Rattle.common.specs.Score.{is_score}
 use Rattle.common.proofs.ScoreLaws.{score_within}
 use Rattle.charts.specs.Scores.{checked}
-use Rattle.charts.proofs.Backward.{Summing, read_backward, summing_none, summing_bounds, summing_score, summing_more}
+use Rattle.charts.proofs.Backward.{Summing, summing_none, summing_bounds, summing_score, summing_more}
 use Rattle.page.specs.Page.{excess, trailing_parts, masked}
 
 module _ (h : ℕ) (k : ℤ) (s0 : ℕ) where
@@ -35,7 +35,10 @@ module _ (h : ℕ) (k : ℤ) (s0 : ℕ) where
       ∙ ap (masked h k s0) (sym (append_assoc (reverse xs) (x ∷ []) ys) ∙ ap (λ l. l ++ ys) (sym (reverse-append (x ∷ []) xs)))
 
   mask_is : (xs : List ℤ) → mask_on (pos 0) (reverse xs) ≡ masked h k s0 xs
-  mask_is = read_backward (mask_on (pos 0)) (masked h k s0) (λ xs. sym (or-false (mask_on (pos 0) xs)) ∙ mask_rest xs [] ∙ ap (masked h k s0) (append-nil (reverse xs)))
+  mask_is xs =
+      sym (or-false (mask_on (pos 0) (reverse xs)))
+      ∙ mask_rest (reverse xs) []
+      ∙ ap (masked h k s0) (append-nil (reverse (reverse xs)) ∙ reverse-reverse xs)
 
   -- the list xs, with the sum of the scores read so far, none of which alarmed, and those left, the latest first
   pub record Reading (xs : List ℤ) (sum : ℤ) (left : List ℤ) : Type 0 where
