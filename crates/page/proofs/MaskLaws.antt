@@ -4,7 +4,7 @@ use Rattle.std.specs.List.{list_any}
 use Rattle.std.proofs.Math.Bool.{or_comm, or-false}
 use Rattle.std.proofs.lemmas.List.{reverse-append, reverse-reverse, append_assoc, append-nil}
 use Rattle.std.proofs.lemmas.Int.{ints}
-use Rattle.std.proofs.lemmas.Bool.{and_parts}
+use Rattle.std.proofs.lemmas.Bool.{and_parts, or_left, or_right}
 use Rattle.common.specs.Score.{is_score}
 use Rattle.common.proofs.ScoreLaws.{score_within}
 use Rattle.charts.specs.Scores.{are_scores, checked}
@@ -29,6 +29,11 @@ module _ (h : ℕ) (k : ℤ) (s0 : ℕ) where
 
   abbrev trailing : List ℤ → Bool
   trailing xs = list_any (λ part. int_le (pos h) (excess k part)) (trailing_parts xs)
+
+  -- a trailing part that alarms makes the list alarm
+  part_alarms : (front : List ℤ) (x : ℤ) (part : List ℤ) → int_le (pos h) (excess k (x ∷ part)) ≡ true → trailing (front ++ (x ∷ part)) ≡ true
+  part_alarms [] x part high = or_left _ _ high
+  part_alarms (y ∷ front) x part high = or_right _ _ (part_alarms front x part high)
 
   same_sum : (x : ℤ) (ys : List ℤ) → excess k ys +ℤ (x -ℤ k) ≡ excess k (x ∷ ys)
   same_sum x ys = omega (arith, ints)
