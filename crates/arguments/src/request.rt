@@ -38,14 +38,18 @@ fn page_of<'a>(words: &mut Words<'a>) -> Result<Page, Complaint<'a>> {
     let h = words.number("h of page, from 1 to 4096")?;
     let k = words.number("k of page, from -1000 to 1000")?;
     let s0 = words.number("s0 of page, from 0 to h - 1")?;
-    let rule = "page takes h from 1 to 4096, k from -1000 to 1000, s0 from 0 to h - 1";
-    Page::new(h, k, s0).map_err(|fault| Complaint::refused(&fault, place, rule))
+    Page::new(h, k, s0).map_err(|fault| {
+        let rule = "page takes h from 1 to 4096, k from -1000 to 1000, s0 from 0 to h - 1";
+        Complaint::refused(&fault, place, rule)
+    })
 }
 
 fn shewhart_of<'a>(words: &mut Words<'a>) -> Result<Shewhart, Complaint<'a>> {
     let place = words.place();
     words.keyword("shewhart")?;
     let c = words.number("c of shewhart, from -1000 to 1000")?;
-    let rule = "shewhart takes c from -1000 to 1000";
-    Shewhart::new(c).map_err(|fault| Complaint::refused(&fault, place, rule))
+    Shewhart::new(c).map_err(|fault| {
+        let rule = "shewhart takes c from -1000 to 1000";
+        Complaint::refused(&fault, place, rule)
+    })
 }

@@ -18,7 +18,7 @@ impl<'a> Words<'a> {
     }
 
     // The place of the next word.
-    pub fn place(&self) -> Place {
+    pub fn place(&self) -> Place<'a> {
         Place::Argument(self.read.saturating_add(1))
     }
 

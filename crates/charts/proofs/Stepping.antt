@@ -7,10 +7,22 @@ use Rattle.charts.specs.Scores.{checked}
 use Rattle.charts.specs.declared.chart.Size.{Size}
 use Rattle.charts.specs.declared.fault.ChartFault.{ChartFault}
 
--- a chart whose size is answered has one
-pub size_there : (size : Option ℕ) (leaves : ℕ) (z : Size) (fault : ChartFault) → Ok z ≡ ok_or (size_of size leaves) fault → is_some size ≡ true
-size_there None leaves z fault e = cc
-size_there (Some n) leaves z fault e = refl
+-- a size that is answered
+pub size_is : (size : Option ℕ) (leaves : ℕ) (z : Size) → size_of size leaves ≡ Some z → (size ≡ Some z.states) × (z.leaves ≡ leaves)
+size_is None leaves z e = cc
+size_is (Some n) leaves z e =
+    let same : ◌≡◌ {A = Size} (record { states = n; leaves = leaves }) z = cc in
+    (ap (λ y. Some y.states) same, sym (ap (λ y. y.leaves) same))
+
+-- there is one where there is a size
+pub size_there : (size : Option ℕ) (leaves : ℕ) → is_some (size_of size leaves) ≡ is_some size
+size_there None leaves = refl
+size_there (Some n) leaves = refl
+
+-- so a chart whose size is answered has one
+pub size_answered : (size : Option ℕ) (leaves : ℕ) (z : Size) (fault : ChartFault) → Ok z ≡ ok_or (size_of size leaves) fault → is_some size ≡ true
+size_answered None leaves z fault e = cc
+size_answered (Some n) leaves z fault e = refl
 
 -- a start that is answered is the start
 pub started_is : (size : Option ℕ) (start s : ℕ) → started size start ≡ Ok s → s ≡ start

@@ -51,6 +51,13 @@ module _ (a b : Model) (la : Lawful a) (lb : Lawful b) (z : Sizes) (e : ok_or (s
       (subst (λ m. m < d.p) (sym (started_is a.size a.start first f)) (sized_first a b la lb z.pair.states d).start_below)
       (subst (λ m. m < d.q) (sym (started_is b.size b.start second s)) (sized_second a b la lb z.pair.states d).start_below)
 
+  -- the bits of the first leave room in a word
+  pub first_narrow : z.first.leaves ≤ 16
+  first_narrow =
+      let few = d.narrow in
+      let same = here.first_leaves in
+      omega arith
+
   -- the words of both fit side by side
   words_join : (low high : ℕ) → low < 2 ^ a.leaves → high < 2 ^ b.leaves → low + 2 ^ z.first.leaves * high < 65536
   words_join low high f s =
@@ -73,28 +80,29 @@ module _ (a b : Model) (la : Lawful a) (lb : Lawful b) (z : Sizes) (e : ok_or (s
         let ok = stepped_ok b.size b.next b.word (s % z.second.states) x d.q d.second below k in
         cc
 
-    module _ (first low second high : ℕ) (f : stepped a.size a.next a.word (s / z.second.states) x ≡ Ok (first, low)) (t : stepped b.size b.next b.word (s % z.second.states) x ≡ Ok (second, high)) where
-      one : Took a.size a.next a.word (s / z.second.states) x first low
-      one = stepped_is a.size a.next a.word (s / z.second.states) x first low f
+  -- steps that both take, from any states of theirs
+  module _ (s t : ℕ) (x : ℤ) (first low second high : ℕ) (f : stepped a.size a.next a.word s x ≡ Ok (first, low)) (g : stepped b.size b.next b.word t x ≡ Ok (second, high)) where
+    one : Took a.size a.next a.word s x first low
+    one = stepped_is a.size a.next a.word s x first low f
 
-      two : Took b.size b.next b.word (s % z.second.states) x second high
-      two = stepped_is b.size b.next b.word (s % z.second.states) x second high t
+    two : Took b.size b.next b.word t x second high
+    two = stepped_is b.size b.next b.word t x second high g
 
-      -- the next states fit
-      pub steps_fit : first * z.second.states + second < 2 ^ 32
-      steps_fit =
-          let below_one : s / z.second.states < d.p = let same : one.n ≡ d.p = some_same one.sized d.first in let h = one.below in omega arith in
-          let below_two : s % z.second.states < d.q = let same : two.n ≡ d.q = some_same two.sized d.second in let h = two.below in omega arith in
-          state_fits first second
-          (subst (λ m. m < d.p) (sym one.state) ((sized_first a b la lb z.pair.states d).next_below (s / z.second.states) x below_one one.score))
-          (subst (λ m. m < d.q) (sym two.state) ((sized_second a b la lb z.pair.states d).next_below (s % z.second.states) x below_two two.score))
+    -- the next states fit
+    pub steps_fit : first * z.second.states + second < 2 ^ 32
+    steps_fit =
+        let below_one : s < d.p = let same : one.n ≡ d.p = some_same one.sized d.first in let h = one.below in omega arith in
+        let below_two : t < d.q = let same : two.n ≡ d.q = some_same two.sized d.second in let h = two.below in omega arith in
+        state_fits first second
+        (subst (λ m. m < d.p) (sym one.state) ((sized_first a b la lb z.pair.states d).next_below s x below_one one.score))
+        (subst (λ m. m < d.q) (sym two.state) ((sized_second a b la lb z.pair.states d).next_below t x below_two two.score))
 
-      -- and the words side by side
-      pub steps_join : low + 2 ^ z.first.leaves * high < 65536
-      steps_join =
-          words_join low high
-          (subst (λ m. m < 2 ^ a.leaves) (sym one.bits) ((la.sized one.n one.sized).word_below _ x one.below one.score))
-          (subst (λ m. m < 2 ^ b.leaves) (sym two.bits) ((lb.sized two.n two.sized).word_below _ x two.below two.score))
+    -- and the words side by side
+    pub steps_join : low + 2 ^ z.first.leaves * high < 65536
+    steps_join =
+        words_join low high
+        (subst (λ m. m < 2 ^ a.leaves) (sym one.bits) ((la.sized one.n one.sized).word_below s x one.below one.score))
+        (subst (λ m. m < 2 ^ b.leaves) (sym two.bits) ((lb.sized two.n two.sized).word_below t x two.below two.score))
 
   pub looks_join : (xs : List ℤ) (low high : ℕ) → looked a.size a.look xs ≡ Ok low → looked b.size b.look xs ≡ Ok high → low + 2 ^ z.first.leaves * high < 65536
   looks_join xs low high f s =

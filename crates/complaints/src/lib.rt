@@ -11,19 +11,22 @@ use std::fmt;
 
 // Where the cause stands; places count from 1.
 #[derive(Clone, Copy, Debug, PartialEq, Eq)]
-pub enum Place {
+pub enum Place<'a> {
     Argument(usize),
     Line(usize),
+    // a place of another kind, by the name of that kind
+    Other { kind: &'a str, place: usize },
 }
 
 // Written by hand, as the next one is: of what a derived one prints no contract says anything.
-impl fmt::Display for Place {
+impl fmt::Display for Place<'_> {
     ghost output = { λ place. Some (place_text place) };
 
     fn fmt<W: fmt::Write>(&self, f: &mut fmt::Formatter<W>) -> fmt::Result {
         match self {
             Place::Argument(place) => write!(f, "argument {place}"),
             Place::Line(place) => write!(f, "line {place}"),
+            Place::Other { kind, place } => write!(f, "{kind} {place}"),
         }
     }
 }
@@ -32,21 +35,21 @@ impl fmt::Display for Place {
 pub enum Complaint<'a> {
     // what stands at the place is not what is to stand there
     Unfit {
-        place: Place,
+        place: Place<'a>,
         wanted: &'a str,
         found: &'a str,
     },
     // a call declines what stands at the place, by the rule that it breaks
     Refused {
         refusal: Refusal,
-        place: Place,
+        place: Place<'a>,
         rule: &'a str,
     },
 }
 
 impl<'a> Complaint<'a> {
-    pub fn refused<F: Fault>(fault: &F, place: Place, rule: &'a str) -> Complaint<'a>
-        ensures { result ≡ Refused (F.refusal fault.now) place rule.entry }
+    pub fn refused<F: Fault>(fault: &F, place: Place<'a>, rule: &'a str) -> Complaint<'a>
+        ensures { result ≡ Refused (F.refusal fault.now) place.entry rule.entry }
     {
         Complaint::Refused {
             refusal: fault.refusal(),

@@ -1,14 +1,25 @@
 -- The V-mask, read backward from the latest score.
-use Rattle.std.proofs.Common.{reverse, ◌≡◌, ℕ, Bool, true, false, ◌||◌, List, [], ◌∷◌, ◌++◌, ℤ, pos, negsuc, ◌+ℤ◌, ◌-ℤ◌, ◌≤ℤ◌, int_le, Ok, sym, ap, ◌∙◌, subst, arith}
+use Rattle.std.proofs.Common.{reverse, ◌≡◌, ℕ, ◌*◌, Bool, true, false, ◌||◌, List, [], ◌∷◌, ◌++◌, length, ℤ, pos, negsuc, ◌+ℤ◌, ◌-ℤ◌, ◌≤ℤ◌, int_le, Ok, sym, ap, ◌∙◌, subst, arith}
 use Rattle.std.specs.List.{list_any}
 use Rattle.std.proofs.Math.Bool.{or_comm, or-false}
 use Rattle.std.proofs.lemmas.List.{reverse-append, reverse-reverse, append_assoc, append-nil}
 use Rattle.std.proofs.lemmas.Int.{ints}
+use Rattle.std.proofs.lemmas.Bool.{and_parts, or_left, or_right}
 use Rattle.common.specs.Score.{is_score}
 use Rattle.common.proofs.ScoreLaws.{score_within}
-use Rattle.charts.specs.Scores.{checked}
+use Rattle.charts.specs.Scores.{are_scores, checked}
 use Rattle.charts.proofs.Backward.{Summing, summing_none, summing_bounds, summing_score, summing_more}
 use Rattle.page.specs.Page.{excess, trailing_parts, masked}
+
+-- the excess of a list of scores
+excess_within : (k : ℤ) (xs : List ℤ) → is_score k ≡ true → are_scores xs ≡ true → (excess k xs ≤ℤ pos (2000 * length xs)) × (pos 0 ≤ℤ (excess k xs +ℤ pos (2000 * length xs)))
+excess_within k [] r q = (omega (arith, ints), omega (arith, ints))
+excess_within k (x ∷ xs) r q =
+    let both = and_parts (is_score x) (are_scores xs) q in
+    let rest = excess_within k xs r both.1 in
+    let one = score_within x both.0 in
+    let reference = score_within k r in
+    (omega (arith, ints), omega (arith, ints))
 
 module _ (h : ℕ) (k : ℤ) (s0 : ℕ) where
   -- the mask over scores still to come, the latest first, with the excess of those before them
@@ -18,6 +29,11 @@ module _ (h : ℕ) (k : ℤ) (s0 : ℕ) where
 
   abbrev trailing : List ℤ → Bool
   trailing xs = list_any (λ part. int_le (pos h) (excess k part)) (trailing_parts xs)
+
+  -- a trailing part that alarms makes the list alarm
+  part_alarms : (front : List ℤ) (x : ℤ) (part : List ℤ) → int_le (pos h) (excess k (x ∷ part)) ≡ true → trailing (front ++ (x ∷ part)) ≡ true
+  part_alarms [] x part high = or_left _ _ high
+  part_alarms (y ∷ front) x part high = or_right _ _ (part_alarms front x part high)
 
   same_sum : (x : ℤ) (ys : List ℤ) → excess k ys +ℤ (x -ℤ k) ≡ excess k (x ∷ ys)
   same_sum x ys = omega (arith, ints)

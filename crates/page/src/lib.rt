@@ -98,11 +98,14 @@ impl Chart for Page {
 
     fn step(&self, state: u32, score: i16) -> Result<(u32, u16), ChartFault> {
         self.extent().check(state, score)?;
-        let sum = state.saturating_add_signed(self.excess(score));
-        if sum >= self.h.into() {
+        // a cast that loses nothing, which is proved; a saturating sum branches on the sign of what is added
+        let sum = state as i32 + self.excess(score);
+        if self.alarms(sum) {
             Ok((self.s0.into(), 1))
+        } else if sum > 0 {
+            Ok((sum.unsigned_abs(), 0))
         } else {
-            Ok((sum, 0))
+            Ok((0, 0))
         }
     }
 

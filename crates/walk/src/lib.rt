@@ -67,7 +67,8 @@ impl Walk {
         if self.alarms(total) {
             (self.middle(), 1)
         } else {
-            (self.middle().saturating_add_signed(total), 0)
+            // between the limits, so that nothing wraps
+            (self.middle().wrapping_add_signed(total), 0)
         }
     }
 }

@@ -23,13 +23,13 @@ pub join-word-requires-clause-fits : goal.join-word-requires-clause-fits
 join-word-requires-clause-fits g c =
     let self = c.args.self.now in
     steps_join _ _ (g.met.A.Chart.lawful self.first) (g.met.B.Chart.lawful self.second) _ (sym c.sized.ensures ∙ c.in_ok-sizes.was)
-    _ _ _ _ _ _ (sym c.step.ensures ∙ c.in_ok-first_next.was) (sym c.step-2.ensures ∙ c.in_ok-second_next.was)
+    _ _ _ _ _ _ _ (sym c.step.ensures ∙ c.in_ok-first_next.was) (sym c.step-2.ensures ∙ c.in_ok-second_next.was)
 
 fit : (g : Over) (c : Then-word-eq0 g) → c.in_ok-first_next.first_next * c.in_ok-sizes.sizes.second.states + c.in_ok-second_next.second_next < 2 ^ 32
 fit g c =
     let self = c.args.self.now in
     steps_fit _ _ (g.met.A.Chart.lawful self.first) (g.met.B.Chart.lawful self.second) _ (sym c.sized.ensures ∙ c.in_ok-sizes.was)
-    _ _ _ _ _ _ (sym c.step.ensures ∙ c.in_ok-first_next.was) (sym c.step-2.ensures ∙ c.in_ok-second_next.was)
+    _ _ _ _ _ _ _ (sym c.step.ensures ∙ c.in_ok-first_next.was) (sym c.step-2.ensures ∙ c.in_ok-second_next.was)
 
 pub overflow_mul-result : goal.overflow_mul-result
 overflow_mul-result g c = let h = fit g c in omega arith
