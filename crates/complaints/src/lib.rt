@@ -9,7 +9,7 @@ use common::{Fault, Refusal};
 use std::error::Error;
 use std::fmt;
 
-// Where the cause stands; places count from 1.
+// Where the cause stands. Arguments and lines count from 1.
 #[derive(Clone, Copy, Debug, PartialEq, Eq)]
 pub enum Place<'a> {
     Argument(usize),
